@@ -1,0 +1,23 @@
+-- What is held after a replacement: the bytes under the name, and under each other name what was held there.
+use Rattle.std.proofs.Common.{◌≡◌, ℕ, List, refl, ap, nat_eq, true, false, true≢false, cond, sym}
+use Rattle.std.specs.Prelude.{Option, Some, None, Bool, IsTrue}
+use Rattle.std.specs.Bool.{Decides}
+use Rattle.std.specs.Cmp.Lexicographic.{pointwise}
+use Rattle.psc_text.proofs.Same.{text_Decides}
+use Rattle.psc_outside.specs.Contents.{Contents, replaced}
+
+same_name : (b : Bool) (x y : Option (List ℕ)) → IsTrue b → cond b x y ≡ x
+same_name true x y h = refl
+same_name false x y h = absurd (true≢false (sym h))
+
+other_name : (b : Bool) (x y : Option (List ℕ)) → ¬ (IsTrue b) → cond b x y ≡ y
+other_name true x y n = absurd (n refl)
+other_name false x y n = refl
+
+pub replaced-name : (held : Contents) (name bytes : List ℕ) → replaced held name bytes name ≡ Some bytes
+unfolding replaced
+replaced-name held name bytes = same_name _ _ _ ((text_Decides name name).1 refl)
+
+pub replaced-other : (held : Contents) (name bytes other : List ℕ) → ¬ (name ≡ other) → replaced held name bytes other ≡ held other
+unfolding replaced
+replaced-other held name bytes other n = other_name _ _ _ (λ e. n ((text_Decides name other).0 e))

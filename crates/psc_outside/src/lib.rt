@@ -1,0 +1,23 @@
+//! What the program asks of the world outside it, as traits: files to read, a shelf to keep results on, a sink for
+//! printed text, and the status that a run ends with.
+//!
+//! Each object counts its faults, and may tell contracts what it holds. The memory versions tell it; an object over
+//! the real world does not.
+#![tactic(auto)]
+
+mod files;
+mod put;
+mod read_file;
+mod shelf;
+mod sink;
+mod status;
+
+pub use files::Files;
+pub use put::Put;
+pub use read_file::ReadFile;
+pub use shelf::Shelf;
+pub use sink::Sink;
+pub use status::Status;
+
+#[cfg(test)]
+mod tests;

@@ -1,0 +1,3 @@
+//! What a caller knows through the bounds alone.
+
+mod through_bounds;
