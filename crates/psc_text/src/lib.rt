@@ -10,6 +10,8 @@ mod memory;
 mod module_name;
 mod names;
 mod span;
+#[cfg(test)]
+mod tests;
 mod text;
 
 pub use bytes::Bytes;
