@@ -1,5 +1,5 @@
 -- What is held under names, and what a call does to it.
-use Rattle.std.specs.Prelude.{◌≡◌, ℕ, ◌^◌, ◌≤◌, List, ◌++◌, take, length, cond, nat_eq, Option, Some, None, ◌⊎◌}
+use Rattle.std.specs.Prelude.{◌≡◌, ℕ, ◌^◌, ◌≤◌, List, ◌++◌, take, length, cond, nat_eq, nat_le, Option, Some, None, ◌⊎◌}
 use Rattle.std.specs.Cmp.Lexicographic.{pointwise}
 use Rattle.psc_outside.specs.declared.put.Put.{Put}
 use Rattle.psc_outside.specs.declared.put.Put.TheVariants as put
@@ -29,6 +29,11 @@ abbrev pub IsInLimit : ReadFile → Type 0
 IsInLimit (read.Got bytes) = length bytes ≤ 2 ^ 30
 IsInLimit read.Absent = Unit {0}
 IsInLimit read.Failed = Unit {0}
+
+-- what a reading answers where this is held and no fault comes first
+abbrev pub answer_at : Option (List ℕ) → ReadFile
+answer_at None = read.Absent
+answer_at (Some bytes) = cond (nat_le (length bytes) (2 ^ 30)) (read.Got bytes) read.Failed
 
 -- the name holds what it held, or the bytes; every other name what it held
 abbrev pub IsOldOrNew : Contents → List ℕ → List ℕ → Contents → Type 0

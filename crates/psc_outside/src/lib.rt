@@ -5,14 +5,22 @@
 //! the real world does not.
 #![tactic(auto)]
 
+mod counting;
 mod files;
+mod mem_files;
+mod mem_shelf;
+mod mem_sink;
 mod put;
 mod read_file;
+mod schedule;
 mod shelf;
 mod sink;
 mod status;
 
 pub use files::Files;
+pub use mem_files::MemFiles;
+pub use mem_shelf::{MemShelf, ShelfCall};
+pub use mem_sink::MemSink;
 pub use put::Put;
 pub use read_file::ReadFile;
 pub use shelf::Shelf;
