@@ -1,0 +1,135 @@
+//! Alternatives, local bindings and statements, and the blocks of them.
+
+use crate::exprs::{Exprs, rules};
+use psc_ast::{Alt, Bind, Clause, ExprTree, Stmt};
+use psc_lex::Sign;
+use psc_parse_base::{Fault, Next, Parsed, Sym, comes, eat, expect, goes_on, ident, lower, opens_block, peek_second, sees, span_of};
+use psc_parse_binder::{atoms, list, one_binder};
+use psc_parse_type::sig;
+use sqlite_items::Items;
+use std::alloc::Global;
+
+impl Exprs {
+    #[cycle(exprs)]
+    fn alt<'a>(&self, syms: &'a [Sym]) -> Parsed<'a, Alt> {
+        let (binders, rest) = list(self.alloc, syms)?;
+        let (rhs, rest) = self.rhs(rest, Sign::Arrow)?;
+        Ok((Alt { binders, rhs, span: span_of(syms, rest) }, rest))
+    }
+
+    #[cycle(exprs)]
+    pub fn alts<'a>(&self, syms: &'a [Sym]) -> Parsed<'a, Items<Alt>> {
+        let mut found = Items::new(self.alloc);
+        let (mut more, mut rest) = opens_block(syms)?;
+        for _turn in 0..syms.len() {
+            if !more {
+                return Ok((found, rest));
+            }
+            let (next, after) = self.alt(rest)?;
+            found.push(next)?;
+            (more, rest) = goes_on(after)?;
+        }
+        if more { Err(Fault::Grammar) } else { Ok((found, rest)) }
+    }
+
+    /// A clause of a function or a value.
+    #[cycle(exprs)]
+    pub fn clause<'a>(&self, syms: &'a [Sym]) -> Parsed<'a, Clause> {
+        let (name, rest) = ident(syms)?;
+        let (arguments, rest) = atoms(self.alloc, rest)?;
+        let (rhs, rest) = self.rhs(rest, Sign::Equals)?;
+        Ok((Clause { name, arguments, rhs, span: span_of(syms, rest) }, rest))
+    }
+
+    /// A binder and its right side.
+    #[cycle(exprs)]
+    fn value<'a>(&self, syms: &'a [Sym]) -> Parsed<'a, Bind> {
+        let (binder, rest) = one_binder(self.alloc, syms)?;
+        let (rhs, rest) = self.rhs(rest, Sign::Equals)?;
+        Ok((Bind::Value { binder, rhs, span: span_of(syms, rest) }, rest))
+    }
+
+    /// A local binding: what begins with a lower name and no `@` is a signature or a clause.
+    #[cycle(exprs)]
+    fn bind<'a>(&self, syms: &'a [Sym]) -> Parsed<'a, Bind> {
+        if !lower(syms) || peek_second(syms) == Next::Token(Sign::At) {
+            return self.value(syms);
+        }
+        if peek_second(syms) == Next::Token(Sign::DoubleColon) {
+            let (sig, rest) = sig(self.alloc, syms)?;
+            return Ok((Bind::Sig(sig), rest));
+        }
+        let (clause, rest) = self.clause(syms)?;
+        Ok((Bind::Clause(clause), rest))
+    }
+
+    #[cycle(exprs)]
+    fn binds<'a>(&self, syms: &'a [Sym]) -> Parsed<'a, Items<Bind>> {
+        let mut found = Items::new(self.alloc);
+        let (mut more, mut rest) = opens_block(syms)?;
+        for _turn in 0..syms.len() {
+            if !more {
+                return Ok((found, rest));
+            }
+            let (next, after) = self.bind(rest)?;
+            found.push(next)?;
+            (more, rest) = goes_on(after)?;
+        }
+        if more { Err(Fault::Grammar) } else { Ok((found, rest)) }
+    }
+
+    /// The block of a `let` or `where` inside an expression.
+    #[cycle(exprs)]
+    pub fn locals<'a>(&self, syms: &'a [Sym]) -> Parsed<'a, Items<Bind>> {
+        if self.depth == 0 {
+            return Err(Fault::Grammar);
+        }
+        Exprs { alloc: self.alloc, depth: self.depth - 1 }.binds(syms)
+    }
+
+    /// A `let` that begins a statement; with an `in` it is an expression.
+    #[cycle(exprs)]
+    fn let_step<'a>(&self, syms: &'a [Sym]) -> Parsed<'a, Stmt> {
+        let (binds, rest) = self.locals(expect(syms, Sign::Let)?)?;
+        let Some(after) = eat(rest, Sign::In) else {
+            return Ok((Stmt::Let { binds, span: span_of(syms, rest) }, rest));
+        };
+        let (body, rest) = self.boxed(after)?;
+        let value = ExprTree::Let { binds, body, span: span_of(syms, rest) };
+        Ok((Stmt::Run { value }, rest))
+    }
+
+    #[cycle(exprs)]
+    fn stmt<'a>(&self, syms: &'a [Sym]) -> Parsed<'a, Stmt> {
+        if sees(syms, Sign::Let) {
+            return self.let_step(syms);
+        }
+        if !comes(syms, Sign::LeftArrow) {
+            let (value, rest) = self.inner(syms)?;
+            return Ok((Stmt::Run { value }, rest));
+        }
+        let (binder, rest) = one_binder(self.alloc, syms)?;
+        let (value, rest) = self.inner(expect(rest, Sign::LeftArrow)?)?;
+        Ok((Stmt::Binds { binder, value, span: span_of(syms, rest) }, rest))
+    }
+
+    #[cycle(exprs)]
+    pub fn stmts<'a>(&self, syms: &'a [Sym]) -> Parsed<'a, Items<Stmt>> {
+        let mut found = Items::new(self.alloc);
+        let (mut more, mut rest) = opens_block(syms)?;
+        for _turn in 0..syms.len() {
+            if !more {
+                return Ok((found, rest));
+            }
+            let (next, after) = self.stmt(rest)?;
+            found.push(next)?;
+            (more, rest) = goes_on(after)?;
+        }
+        if more { Err(Fault::Grammar) } else { Ok((found, rest)) }
+    }
+}
+
+/// A clause, as it stands at the top of a module or in an instance.
+pub fn one_clause(alloc: Global, syms: &[Sym]) -> Parsed<'_, Clause> {
+    rules(alloc, syms).clause(syms)
+}
