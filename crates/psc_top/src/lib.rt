@@ -1,0 +1,5 @@
+//! The calls that the program makes.
+#![tactic(auto)]
+
+mod line;
+mod words;
