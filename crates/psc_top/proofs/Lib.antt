@@ -1,3 +1,5 @@
 pub mod Cuts
 pub mod Letters
+pub mod ModuleWords
 pub mod Numbers
+pub mod Readings

@@ -2,4 +2,5 @@
 #![tactic(auto)]
 
 mod line;
+mod source;
 mod words;
