@@ -13,7 +13,7 @@ const KEYWORDS: [&str; 24] = [
 ];
 
 /// Whether a word is one of these texts.
-fn is_among(texts: &[&str], word: &[u8]) -> bool
+pub fn is_among(texts: &[&str], word: &[u8]) -> bool
     ensures { result ≡ list_any (λ text. bytes_eq text.now word.now) texts.now }
 {
     texts.iter().any(|text| text.as_bytes() == word)
