@@ -1,8 +1,11 @@
 //! The calls that the program makes.
 #![tactic(auto)]
 
+mod compile;
 mod core_module;
 mod line;
 mod printed;
+mod report;
 mod source;
+mod text;
 mod words;
