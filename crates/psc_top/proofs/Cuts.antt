@@ -32,4 +32,4 @@ pub more_than_three : (p : ℕ → Bool) (a b c xs : List ℕ) → three (a ∷ 
 more_than_three p a b c [] = refl
 more_than_three p a b c (x ∷ xs) =
     elim (p x) as (λ v. three (a ∷ b ∷ c ∷ cond v ([] ∷ slice_split p xs) (onto_first x (slice_split p xs))) ≡ None)
-      [ true ↦ refl | false ↦ onto_some a b c x (slice_split p xs) ]
+    [ true ↦ refl | false ↦ onto_some a b c x (slice_split p xs) ]

@@ -21,9 +21,9 @@ from_range : (p : ℕ → Bool) (a n : ℕ) → all_from p a n ≡ true → (c :
 from_range p a zero h c low high = absurd (omega arith)
 from_range p a (suc n) h c low high =
     ⊎_elim
-      (λ (above : a < c). from_range p (suc a) n (second (p a) (all_from p (suc a) n) h) c (omega arith) (omega arith))
-      (λ (below : c ≤ a). let same : a ≡ c = omega arith in subst (λ (x : ℕ). p x ≡ true) same (first (p a) (all_from p (suc a) n) h))
-      (cases_lt a c)
+    (λ (above : a < c). from_range p (suc a) n (second (p a) (all_from p (suc a) n) h) c (omega arith) (omega arith))
+    (λ (below : c ≤ a). let same : a ≡ c = omega arith in subst (λ (x : ℕ). p x ≡ true) same (first (p a) (all_from p (suc a) n) h))
+    (cases_lt a c)
 
 upper_letters : all_from begins_upper 65 26 ≡ true
 unfolding general_category general_category_rows value_in
@@ -47,13 +47,13 @@ upper_begins c h = from_range begins_upper 65 26 upper_letters c (grind (arith, 
 letter_goes_on : (c : ℕ) → is_ascii_alphanumeric c ≡ true → goes_on c ≡ true
 letter_goes_on c h =
     ⊎_elim
-      (λ (digit : c < 58). from_range goes_on 48 10 digits_go_on c (grind (arith, nat_tests)) digit)
-      (λ (letter : 58 ≤ c).
-        ⊎_elim
-          (λ (upper : c < 91). from_range goes_on 65 26 uppers_go_on c (grind (arith, nat_tests)) upper)
-          (λ (lower : 91 ≤ c). from_range goes_on 97 26 lowers_go_on c (grind (arith, nat_tests)) (grind (arith, nat_tests)))
-          (cases_lt c 91))
-      (cases_lt c 58)
+    (λ (digit : c < 58). from_range goes_on 48 10 digits_go_on c (grind (arith, nat_tests)) digit)
+    (λ (letter : 58 ≤ c).
+    ⊎_elim
+    (λ (upper : c < 91). from_range goes_on 65 26 uppers_go_on c (grind (arith, nat_tests)) upper)
+    (λ (lower : 91 ≤ c). from_range goes_on 97 26 lowers_go_on c (grind (arith, nat_tests)) (grind (arith, nat_tests)))
+    (cases_lt c 91))
+    (cases_lt c 58)
 
 no_dot : (c : ℕ) → is_ascii_alphanumeric c ≡ true → (c == 46) ≡ false
 no_dot c h = grind (arith, nat_tests)
@@ -70,7 +70,7 @@ goes_through : (cs : List ℕ) → list_all is_ascii_alphanumeric cs ≡ true �
 goes_through [] h = refl
 goes_through (c ∷ cs) h =
     ap (λ (o : Option Bool). elim o as (λ _. Bool) [ Some next ↦ are_upper_names next cs | None ↦ false ])
-      (behind_letter c (first (is_ascii_alphanumeric c) (list_all is_ascii_alphanumeric cs) h))
+    (behind_letter c (first (is_ascii_alphanumeric c) (list_all is_ascii_alphanumeric cs) h))
     ∙ goes_through cs (second (is_ascii_alphanumeric c) (list_all is_ascii_alphanumeric cs) h)
 
 is_name : (word : List ℕ) → is_module_word word ≡ true → is_module_name word ≡ true
@@ -78,7 +78,7 @@ is_name [] h = absurd (false≢true h)
 is_name (c ∷ cs) h =
     let all = second (is_ascii_uppercase c) (list_all is_ascii_alphanumeric (c ∷ cs)) h in
     ap (λ (o : Option Bool). elim o as (λ _. Bool) [ Some next ↦ are_upper_names next cs | None ↦ false ])
-      (behind_upper c (first (is_ascii_uppercase c) (list_all is_ascii_alphanumeric (c ∷ cs)) h))
+    (behind_upper c (first (is_ascii_uppercase c) (list_all is_ascii_alphanumeric (c ∷ cs)) h))
     ∙ goes_through cs (second (is_ascii_alphanumeric c) (list_all is_ascii_alphanumeric cs) all)
 
 pub module_word_is_name : (word : List ℕ) → is_module_word word ≡ true → is_module_name (chars word) ≡ true

@@ -19,7 +19,7 @@ split_shape : (p : ℕ → Bool) (xs : List ℕ) → (y : List ℕ) × (ys : Lis
 split_shape p [] = ([], [], refl)
 split_shape p (x ∷ xs) =
     elim (p x) as (λ v. (y : List ℕ) × (ys : List (List ℕ)) × (cond v ([] ∷ slice_split p xs) (onto_first x (slice_split p xs)) ≡ y ∷ ys))
-      [ true ↦ ([], slice_split p xs, refl) | false ↦ onto_shape x (slice_split p xs) ]
+    [ true ↦ ([], slice_split p xs, refl) | false ↦ onto_shape x (slice_split p xs) ]
 
 pub refused_line : (p : ℕ → Bool) (k : ℕ) (before : List Binding) (line xs : List ℕ) → with_line k before line ≡ None
     → bindings_in k before (line ∷ slice_split p xs) ≡ refused k
@@ -52,4 +52,4 @@ accepted p line xs name bindings h g =
     header_line p line xs
     ∙ ap (behind_header line (slice_split p xs)) (sym h)
     ∙ ap (λ (r : Result (List Binding) RefusedLine). elim r as (λ _. Result Source RefusedLine)
-        [ Err at ↦ Err at | Ok bindings ↦ Ok (record { name = name; header = to_end 1 line 1; bindings = bindings }) ]) (sym g)
+    [ Err at ↦ Err at | Ok bindings ↦ Ok (record { name = name; header = to_end 1 line 1; bindings = bindings }) ]) (sym g)

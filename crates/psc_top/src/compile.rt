@@ -3,27 +3,22 @@
 //! The steps stand in their order: the words, the reading of the file, its lines, the shelf, the sink.
 //! A fault of the shelf or the sink ends the run, and nothing is put to the sink after it.
 
-ghost use Rattle.std.specs.Prelude.{◌≡◌, ◌≤◌, ◌^◌, length, IfOk};
-ghost use Rattle.psc_outside.specs.declared.status.Status.TheVariants as status;
+ghost use Rattle.std.specs.Prelude.{◌≡◌, ◌≢◌, ◌≤◌, ◌^◌, length, IfOk};
+ghost use Rattle.psc_outside.specs.declared.read_file.ReadFile.{ReadFile};
 ghost use Rattle.psc_top.specs.Run as run;
 ghost use Rattle.psc_top.specs.Reading as reading;
-ghost use Rattle.psc_top.specs.Calls.{Says, Stores, Makes};
+ghost use Rattle.psc_top.specs.Calls.{Says, Makes, ReadsFile, Runs};
 
 use crate::core_module::core_module_of;
-use crate::report::{refusal, stored_name};
+use crate::report::{file_word, not_found, read_fault, refusal, stored_name};
 use crate::source::{Source, source_of};
 use crate::text::corefn_of;
-use psc_outside::{Put, Shelf, Sink, Status};
-use psc_text::NoMemory;
+use psc_outside::{Files, Put, ReadFile, Shelf, Sink, Status};
+use psc_text::{NoMemory, Text};
 use std::alloc::Global;
 
 /// Puts a text to the sink: the status is the given one, or tells of the fault.
-fn say<K: Sink>(
-    alloc: Global,
-    out: &mut K,
-    text: &str,
-    status: Status,
-) -> Result<Status, NoMemory>
+fn say<K: Sink>(alloc: Global, out: &mut K, text: &str, status: Status) -> Result<Status, NoMemory>
     ensures { IfOk result (λ answer. Says K.tells K.taken K.faults out.old out.new text.now status answer) }
 {
     match out.put(alloc, text.as_bytes())? {
@@ -73,5 +68,72 @@ fn compile_bytes<S: Shelf, K: Sink>(
             let report = refusal(alloc, path, refused)?;
             say(alloc, out, report.as_str(), Status::Errors)
         }
+    }
+}
+
+/// Reads the file under the path, and compiles it.
+fn compile_file<F: Files, S: Shelf, K: Sink>(
+    alloc: Global,
+    path: &str,
+    files: &mut F,
+    shelf: &mut S,
+    out: &mut K,
+) -> Result<Status, NoMemory>
+    ensures ran { IfOk result (λ answer. (found : ReadFile)
+        × ReadsFile F.tells F.held F.faults files.old files.new path.now found
+        × Makes S.tells S.held S.faults K.tells K.taken K.faults shelf.old shelf.new out.old out.new (run.of_answer path.now found) answer) }
+    ensures keeps_files { (F.held files.new ≡ F.held files.old) × (F.folder files.new ≡ F.folder files.old) }
+{
+    match files.read(alloc, path)? {
+        ReadFile::Got(bytes) => {
+            let status = compile_bytes(alloc, path, bytes.as_slice(), shelf, out)?;
+            Ok(status)
+        }
+        ReadFile::Absent => {
+            let text = not_found(alloc, path)?;
+            say(alloc, out, text.as_str(), Status::Unreadable)
+        }
+        ReadFile::Failed => {
+            let text = read_fault(alloc, path)?;
+            say(alloc, out, text.as_str(), Status::Unreadable)
+        }
+    }
+}
+
+/// A whole run, which want of memory may end.
+fn run<F: Files, S: Shelf, K: Sink>(
+    alloc: Global,
+    words: &[Text],
+    files: &mut F,
+    shelf: &mut S,
+    out: &mut K,
+) -> Result<Status, NoMemory>
+    ensures ran { IfOk result (λ answer. Runs F.tells F.held F.faults S.tells S.held S.faults K.tells K.taken K.faults
+        files.old files.new shelf.old shelf.new out.old out.new words.now answer) }
+    ensures keeps_files { (F.held files.new ≡ F.held files.old) × (F.folder files.new ≡ F.folder files.old) }
+{
+    match file_word(words) {
+        Some(path) => compile_file(alloc, path.as_str(), files, shelf, out),
+        None => say(alloc, out, "purs: bad words\n", Status::BadWords),
+    }
+}
+
+/// Compiles the file that the words name, and stores its CoreFn text on the shelf.
+///
+/// The words are `compile` and a file word, as they stand in the call.
+pub fn compile_alone<F: Files, S: Shelf, K: Sink>(
+    alloc: Global,
+    words: &[Text],
+    files: &mut F,
+    shelf: &mut S,
+    out: &mut K,
+) -> Status
+    ensures ran { result ≢ Status.NoMemory → Runs F.tells F.held F.faults S.tells S.held S.faults K.tells K.taken K.faults
+        files.old files.new shelf.old shelf.new out.old out.new words.now result }
+    ensures keeps_files { (F.held files.new ≡ F.held files.old) × (F.folder files.new ≡ F.folder files.old) }
+{
+    match run(alloc, words, files, shelf, out) {
+        Ok(status) => status,
+        Err(NoMemory) => Status::NoMemory,
     }
 }

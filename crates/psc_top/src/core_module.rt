@@ -4,10 +4,9 @@ ghost use Rattle.std.specs.Prelude.{◌≡◌, IfOk, map};
 ghost use Rattle.psc_top.specs.Core as spec;
 
 use crate::line::Binding;
-use psc_core::{Ann, CoreBind, CoreBinding, CoreExpr, Literal};
 use crate::printed::printed;
 use crate::source::Source;
-use psc_core::CoreModule;
+use psc_core::{Ann, CoreBind, CoreBinding, CoreExpr, CoreModule, Literal};
 use psc_items::SharedItems;
 use psc_text::{NoMemory, Span, Text};
 use sqlite_items::Items;

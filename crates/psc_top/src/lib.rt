@@ -9,3 +9,5 @@ mod report;
 mod source;
 mod text;
 mod words;
+
+pub use compile::compile_alone;

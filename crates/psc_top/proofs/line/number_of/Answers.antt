@@ -12,4 +12,4 @@ pub returns-clause-number : goal.returns-clause-number
 returns-clause-number c =
     c.ok.ensures.value
     ∙ number_read c.args.digits.now c.parse.result (search rules)
-      (subst (λ (ds : List ℕ). ParsesSigned w32 10 ds c.parse.result) c.text_of.ensures c.parse.ensures.value.0)
+    (subst (λ (ds : List ℕ). ParsesSigned w32 10 ds c.parse.result) c.text_of.ensures c.parse.ensures.value.0)

@@ -10,7 +10,7 @@ pub returns-then-not-branch : goal.returns-then-not-branch
 returns-then-not-branch c =
     let refused : spec.with_line c.loop-line.number c.loop-line.bindings c.in-Some.line.now ≡ None = search rules in
     sym (ap (spec.bindings_in c.loop-line.number c.loop-line.bindings) c.in-Some.ensures.parts
-      ∙ refused_line (λ b. b == 10) c.loop-line.number c.loop-line.bindings c.in-Some.line.now c.in-Some.after.now refused)
+    ∙ refused_line (λ b. b == 10) c.loop-line.number c.loop-line.bindings c.in-Some.line.now c.in-Some.after.now refused)
     ∙ c.loop-line.invariant.same
 
 pub loop-line-preserved : goal.loop-line-preserved
@@ -18,9 +18,9 @@ loop-line-preserved c =
     let added : spec.with_line c.loop-line.number c.loop-line.bindings c.in-Some.line.now ≡ Some c.add_line.new.bindings = search rules in
     record {
       same =
-        sym (ap (spec.bindings_in c.loop-line.number c.loop-line.bindings) c.in-Some.ensures.parts
+          sym (ap (spec.bindings_in c.loop-line.number c.loop-line.bindings) c.in-Some.ensures.parts
           ∙ added_line (λ b. b == 10) c.loop-line.number c.loop-line.bindings c.add_line.new.bindings c.in-Some.line.now c.in-Some.after.now added)
-        ∙ c.loop-line.invariant.same;
+          ∙ c.loop-line.invariant.same;
       names = search rules;
       counted = omega arith;
       short = omega (arith, c.in-Some.ensures.shorter);
