@@ -1,8 +1,8 @@
 -- Each step of the walk keeps what is known of its path.
 use Rattle.std.proofs.Common.{◌≡◌, ◌≢◌, ℕ, ◌+◌, ◌-◌, ◌<◌, ◌≤◌, zero, suc, List, [], ◌∷◌, ◌++◌, length, length-append, length-set, take, map, Some, None, slice_get, slice_set, ◌⊎◌, inl, inr, ap, refl, sym, ◌∙◌, arith, Option, MatchOption, Vec, Global}
 use Rattle.std.proofs.lemmas.Bool.Decides.{eqb_tells}
-use Rattle.psc_groups.specs.Graph.{Reaches, Mentions, AllDeclared}
-use Rattle.psc_groups.specs.Path.{IsPath, Walks, AllNew, Ages, EndsWith, MatchLast, NoLast, Last, MarksDone, Closes, Joins, Passes, awaiting}
+use Rattle.psc_groups.specs.Graph.{Reaches, Mentions, AllDeclared, IsNumbering}
+use Rattle.psc_groups.specs.Path.{IsPath, Walks, AllNew, Ages, EndsWith, MatchLast, NoLast, Last, MarksDone, Closes, Joins, Passes, awaiting, number}
 use Rattle.psc_groups.specs.declared.walk.Mark.{Mark}
 use Rattle.psc_groups.specs.declared.walk.Mark.TheVariants.{New, Open, Done}
 use Rattle.psc_groups.specs.declared.walk.Waiting.{Waiting}
@@ -180,3 +180,50 @@ module _ (m : List (Vec ℕ Global)) (old : Walk) (part : Part) (mention : Waiti
   pub pass_open : (new : Walk) (q : ℕ) → slice_get old.marks.items mention.to ≡ Some (Open q) → part.open_from ≤ q → Passes old new → Walks m new
   pass_open new q e le p = pass_walks new (inr (q, e, le)) p
 
+
+pub ends_as : {A : Type 0} → (xs ys : List A) (x : A) → xs ≡ ys → EndsWith xs x → EndsWith ys x
+ends_as xs ys x e h = record { front = h.front; is = sym e ∙ h.is }
+
+-- the path of a walk that has no part is empty
+no_line : (m : List (Vec ℕ Global)) (w : Walk) → Walks m w → w.parts.items ≡ [] → w.line.items ≡ []
+no_line m w walk idle = (walk.path.grounded idle).0
+
+pub idle_leads : (m : List (Vec ℕ Global)) (w : Walk) (d : ℕ) → Walks m w → w.parts.items ≡ [] → (p u : ℕ) → slice_get w.line.items p ≡ Some u → Reaches (Mentions m) u d
+idle_leads m w d walk idle p u e = absurd (let h : slice_get {X = ℕ} [] p ≡ Some u = rw (no_line m w walk idle) at e in cc)
+
+pub seen_more : (old new : List Mark) (d : ℕ) → Ages old new → (slice_get new d ≡ Some New → ⊥) → ((v : ℕ) → v < d → slice_get old v ≡ Some New → ⊥) → (v : ℕ) → v < d + 1 → slice_get new v ≡ Some New → ⊥
+seen_more old new d ages here below v lt e = elim (eqb_tells v d) [
+  | inl h ↦ here (rw h.1 at e)
+  | inr h ↦ below v (let ne = h.1 in omega arith) (ages.young v e)
+]
+
+from_map : (marks : List Mark) (a k : ℕ) → slice_get (map number marks) a ≡ Some k → (x : Mark) × (slice_get marks a ≡ Some x) × (number x ≡ k)
+from_map [] a k e = absurd cc
+from_map (x ∷ xs) zero k e = (x, refl, cc)
+from_map (x ∷ xs) (suc a) k e = from_map xs a k e
+
+length_map : (marks : List Mark) → length (map number marks) ≡ length marks
+length_map [] = refl
+length_map (x ∷ xs) = ap suc (length_map xs)
+
+module _ (m : List (Vec ℕ Global)) (w : Walk) (walk : Walks m w) (idle : w.parts.items ≡ []) (seen : (v : ℕ) → v < length m → slice_get w.marks.items v ≡ Some New → ⊥) where
+  is_done : (a k : ℕ) (x : Mark) → slice_get w.marks.items a ≡ Some x → number x ≡ k → slice_get w.marks.items a ≡ Some (Done k)
+  is_done a k New e h = absurd (seen a (let r = within w.marks.items a New e in let z = walk.sized in omega arith) e)
+  is_done a k (Open p) e h = absurd (let f = walk.path.placed a p e in let g : slice_get {X = ℕ} [] p ≡ Some a = rw (no_line m w walk idle) at f in cc)
+  is_done a k (Done j) e h = rw (← h) e
+
+  numbered : (numbers : List ℕ) → numbers ≡ map number w.marks.items → (a k : ℕ) → slice_get numbers a ≡ Some k → slice_get w.marks.items a ≡ Some (Done k)
+  numbered numbers same a k e = let r = from_map w.marks.items a k (rw same at e) in is_done a k r.0 r.1 r.2
+
+  pub numbering : (numbers : List ℕ) → numbers ≡ map number w.marks.items → IsNumbering (Mentions m) (length m) numbers w.done
+  numbering numbers same = record {
+    whole = ap length same ∙ length_map w.marks.items ∙ walk.sized;
+    counted = λ a k e. walk.path.counted a k (numbered numbers same a k e);
+    falls = λ a b k l edge e f.
+        let r = walk.path.settled a b k (numbered numbers same a k e) edge in
+        let is : Done r.0 ≡ Done l = same_item w.marks.items b (Done r.0) (Done l) r.1 (numbered numbers same b l f) in
+        let eq : r.0 ≡ l = cc in
+        let le = r.2 in
+        omega arith;
+    meets = λ a b k e f. walk.path.one a b k (numbered numbers same a k e) (numbered numbers same b k f);
+  }

@@ -173,6 +173,30 @@ impl Walk {
     }
 }
 
+impl Walk {
+    /// Finds the group of a declaration, and those that it reaches, if that is not done yet.
+    fn visit(&mut self, mentions: &[Vec<u32>], declaration: usize) -> Result<(), NoMemory>
+        requires declared { AllDeclared mentions.now }
+        requires walk { Walks mentions.now self.old }
+        requires idle { self.old.parts.items ≡ [] }
+        ensures walk { OnOk result (Walks mentions.now self.new) }
+        ensures idle { OnOk result (self.new.parts.items ≡ []) }
+        ensures ages { OnOk result (Ages self.old.marks.items self.new.marks.items) }
+        ensures seen { OnOk result (slice_get self.new.marks.items declaration ≡ Some Mark.New → ⊥) }
+    {
+        match mark_at(&self.marks, declaration) {
+            Some(Mark::New) => {
+                self.enter(mentions, declaration)?;
+                self.run(mentions)?;
+                Ok(())
+            }
+            Some(Mark::Open(_)) => Ok(()),
+            Some(Mark::Done(_)) => Ok(()),
+            None => Ok(()),
+        }
+    }
+}
+
 fn mark_at(marks: &[Mark], at: usize) -> Option<Mark>
     ensures { result ≡ slice_get marks.now at }
 {
@@ -242,10 +266,7 @@ pub(crate) fn number_groups(alloc: Global, mentions: &[Vec<u32>]) -> Result<Numb
 {
     let mut walk = Walk::start(alloc, mentions.len())?;
     for declaration in 0..mentions.len() {
-        if let Some(Mark::New) = mark_at(&walk.marks, declaration) {
-            walk.enter(mentions, declaration)?;
-            walk.run(mentions)?;
-        }
+        walk.visit(mentions, declaration)?;
     }
     let numbers = numbers_of(alloc, &walk.marks)?;
     let count = walk.done;

@@ -1,5 +1,4 @@
-use Rattle.std.proofs.Common.{rules, refl, length, ap, sym, ◌∙◌}
-use Rattle.psc_groups.proofs.Steps.{marks_done_of}
+use Rattle.std.proofs.Common.{rules, refl}
 use Rattle.psc_groups.proofs.walk.Walk.close.Goals as goal
 
 pub returns : goal.returns
