@@ -8,19 +8,56 @@ use sqlite_items::{Boxed, Items};
 #[cycle(binders)]
 #[derive(Drop)]
 pub enum PlainBinder {
-    Wild { span: Span },
-    Variable { name: Ident, span: Span },
+    Wild {
+        span: Span,
+    },
+    Variable {
+        name: Ident,
+        span: Span,
+    },
     /// `name@inner`; the span is that of both, `name_span` that of the name alone.
-    Named { name: Ident, name_span: Span, inner: Boxed<PlainBinder>, span: Span },
-    Integer { value: i32, span: Span },
-    Str { value: Text, span: Span },
-    Character { value: char, span: Span },
-    Boolean { value: bool, span: Span },
+    Named {
+        name: Ident,
+        name_span: Span,
+        inner: Boxed<PlainBinder>,
+        span: Span,
+    },
+    Integer {
+        value: i32,
+        span: Span,
+    },
+    Str {
+        value: Text,
+        span: Span,
+    },
+    Character {
+        value: char,
+        span: Span,
+    },
+    Boolean {
+        value: bool,
+        span: Span,
+    },
     /// A constructor by its true name with its arguments, of which there may be none.
-    Constructor { name: Qualified, name_span: Span, arguments: Items<PlainBinder>, span: Span },
-    Array { items: Items<PlainBinder>, span: Span },
-    XRecord { fields: Items<PlainBinderField>, span: Span },
-    Typed { inner: Boxed<PlainBinder>, x_type: Boxed<PlainType>, span: Span },
+    Constructor {
+        name: Qualified,
+        name_span: Span,
+        arguments: Items<PlainBinder>,
+        span: Span,
+    },
+    Array {
+        items: Items<PlainBinder>,
+        span: Span,
+    },
+    XRecord {
+        fields: Items<PlainBinderField>,
+        span: Span,
+    },
+    Typed {
+        inner: Boxed<PlainBinder>,
+        x_type: Boxed<PlainType>,
+        span: Span,
+    },
 }
 
 #[cycle(binders)]

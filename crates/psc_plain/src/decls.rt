@@ -48,7 +48,12 @@ pub enum PlainTypeDecl {
     XData(PlainData),
     Synonym(PlainSynonym),
     /// `foreign import data T :: k`
-    Foreign { name: Text, name_span: Span, kind: Kind, span: Span },
+    Foreign {
+        name: Text,
+        name_span: Span,
+        kind: Kind,
+        span: Span,
+    },
     Class(PlainClass),
 }
 

@@ -10,30 +10,84 @@ use sqlite_items::{Boxed, Items};
 #[cycle(exprs)]
 #[derive(Drop)]
 pub enum PlainExpr {
-    Integer { value: i32, span: Span },
-    Str { value: Text, span: Span },
-    Character { value: char, span: Span },
-    Boolean { value: bool, span: Span },
-    Array { items: Items<PlainExpr>, span: Span },
+    Integer {
+        value: i32,
+        span: Span,
+    },
+    Str {
+        value: Text,
+        span: Span,
+    },
+    Character {
+        value: char,
+        span: Span,
+    },
+    Boolean {
+        value: bool,
+        span: Span,
+    },
+    Array {
+        items: Items<PlainExpr>,
+        span: Span,
+    },
     /// Labels in the order of the source, no two of them the same.
-    XRecord { fields: Items<PlainField>, span: Span },
+    XRecord {
+        fields: Items<PlainField>,
+        span: Span,
+    },
     /// A local name without a module, or a value by its true name.
-    Variable { name: Qualified, span: Span },
+    Variable {
+        name: Qualified,
+        span: Span,
+    },
     /// A constructor by its true name.
-    Constructor { name: Qualified, span: Span },
+    Constructor {
+        name: Qualified,
+        span: Span,
+    },
     /// A function of one variable.
-    Lambda { name: Ident, name_span: Span, body: Boxed<PlainExpr>, span: Span },
-    Application { function: Boxed<PlainExpr>, argument: Boxed<PlainExpr>, span: Span },
+    Lambda {
+        name: Ident,
+        name_span: Span,
+        body: Boxed<PlainExpr>,
+        span: Span,
+    },
+    Application {
+        function: Boxed<PlainExpr>,
+        argument: Boxed<PlainExpr>,
+        span: Span,
+    },
     /// Each alternative has as many binders as there are scrutinees. Guards of a clause without arguments are a case of
     /// nothing.
-    Case { scrutinees: Items<PlainExpr>, alternatives: Items<PlainAlt>, span: Span },
+    Case {
+        scrutinees: Items<PlainExpr>,
+        alternatives: Items<PlainAlt>,
+        span: Span,
+    },
     /// The groups stand in the order in which each may use the ones before it. `of_where` tells whether a `where` was
     /// written.
-    Let { groups: Items<PlainBindGroup>, body: Boxed<PlainExpr>, of_where: bool, span: Span },
-    Typed { value: Boxed<PlainExpr>, x_type: Boxed<PlainType>, span: Span },
-    Access { subject: Boxed<PlainExpr>, label: Label, span: Span },
+    Let {
+        groups: Items<PlainBindGroup>,
+        body: Boxed<PlainExpr>,
+        of_where: bool,
+        span: Span,
+    },
+    Typed {
+        value: Boxed<PlainExpr>,
+        x_type: Boxed<PlainType>,
+        span: Span,
+    },
+    Access {
+        subject: Boxed<PlainExpr>,
+        label: Label,
+        span: Span,
+    },
     /// Labels in the order of the source, no two of them the same.
-    Update { subject: Boxed<PlainExpr>, updates: Items<PlainField>, span: Span },
+    Update {
+        subject: Boxed<PlainExpr>,
+        updates: Items<PlainField>,
+        span: Span,
+    },
 }
 
 /// A label of a record or of an update with its value.
@@ -75,7 +129,11 @@ pub struct PlainGuard {
 #[derive(Drop)]
 pub enum PlainTest {
     Holds(PlainExpr),
-    Binds { binder: PlainBinder, value: PlainExpr, span: Span },
+    Binds {
+        binder: PlainBinder,
+        value: PlainExpr,
+        span: Span,
+    },
 }
 
 /// Local bindings that reach one another, in the order of the source.

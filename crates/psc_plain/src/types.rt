@@ -8,18 +8,44 @@ use sqlite_items::{Boxed, Items};
 #[cycle(types)]
 #[derive(Drop)]
 pub enum PlainType {
-    Variable { name: Ident, span: Span },
+    Variable {
+        name: Ident,
+        span: Span,
+    },
     /// A type, a synonym or a class by its true name.
-    Constructor { name: Qualified, span: Span },
+    Constructor {
+        name: Qualified,
+        span: Span,
+    },
     /// One argument. A use of a synonym is the synonym applied so.
-    Application { function: Boxed<PlainType>, argument: Boxed<PlainType>, span: Span },
+    Application {
+        function: Boxed<PlainType>,
+        argument: Boxed<PlainType>,
+        span: Span,
+    },
     /// One variable; without a kind where none is written.
-    Forall { name: Ident, kind: Option<Kind>, body: Boxed<PlainType>, span: Span },
+    Forall {
+        name: Ident,
+        kind: Option<Kind>,
+        body: Boxed<PlainType>,
+        span: Span,
+    },
     /// One constraint.
-    Given { constraint: PlainConstraint, body: Boxed<PlainType>, span: Span },
+    Given {
+        constraint: PlainConstraint,
+        body: Boxed<PlainType>,
+        span: Span,
+    },
     /// Fields in their order, and the type behind `|`.
-    Row { fields: Items<PlainRowField>, tail: Option<Boxed<PlainType>>, span: Span },
-    Symbol { value: Text, span: Span },
+    Row {
+        fields: Items<PlainRowField>,
+        tail: Option<Boxed<PlainType>>,
+        span: Span,
+    },
+    Symbol {
+        value: Text,
+        span: Span,
+    },
 }
 
 /// A class and its arguments.

@@ -16,5 +16,5 @@ loop-declaration-preserved c = record {
   seen = seen_more _ _ _ c.in_ok-visit.ensures.ages c.in_ok-visit.ensures.seen c.loop-declaration.invariant.seen;
 }
 
-pub returns-in_ok-numbers : goal.returns-in_ok-numbers
-returns-in_ok-numbers c = numbering _ _ _ c.loop-declaration.invariant.walk c.loop-declaration.invariant.idle (search rules) _ (search rules)
+pub returns : goal.returns
+returns c = numbering _ _ _ c.loop-declaration.invariant.walk c.loop-declaration.invariant.idle (search rules) _ (search rules)

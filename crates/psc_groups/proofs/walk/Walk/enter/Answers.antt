@@ -19,4 +19,4 @@ pub returns-clause-ages : goal.returns-clause-ages
 returns-clause-ages c = rw c.set_mark.ensures (ages_set _ _ _)
 
 pub returns-clause-entered : goal.returns-clause-entered
-returns-clause-entered c = rw c.set_mark.ensures (entered_set _ _ _ c.requires.is_new)
+returns-clause-entered c = rw c.set_mark.ensures (entered_set c.args.self.now.marks.items c.args.declaration c.len-place.result c.requires.is_new)

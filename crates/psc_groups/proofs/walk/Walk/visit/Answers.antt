@@ -1,4 +1,4 @@
-use Rattle.psc_groups.proofs.Steps.{idle_leads, still_seen}
+use Rattle.psc_groups.proofs.Steps.{idle_leads}
 use Rattle.psc_groups.proofs.walk.Walk.visit.Goals as goal
 
 pub enter-requires-clause-leads : goal.enter-requires-clause-leads
