@@ -5,8 +5,19 @@
 //! which block it opens.
 #![tactic(auto)]
 
+mod class;
+mod cut;
+mod layout;
+mod lex;
+mod machine;
+mod openers;
+mod raw;
 mod sign;
+#[cfg(test)]
+mod tests;
 mod token;
+mod words;
 
+pub use lex::lex_layout;
 pub use sign::Sign;
 pub use token::{Mark, Opens, Tok, TokKind};
