@@ -7,7 +7,7 @@ use crate::put::Put;
 use crate::read_file::ReadFile;
 
 /// The count after a reading with this answer.
-pub(crate) fn count_read(faults: u64, answer: &ReadFile) -> u64
+pub fn count_read(faults: u64, answer: &ReadFile) -> u64
     ensures counts { ReadCounts faults result answer.now }
     ensures never_falls { faults ≤ result }
 {
@@ -19,7 +19,7 @@ pub(crate) fn count_read(faults: u64, answer: &ReadFile) -> u64
 }
 
 /// The count after a writing with this answer.
-pub(crate) fn count_put(faults: u64, answer: Put) -> u64
+pub fn count_put(faults: u64, answer: Put) -> u64
     ensures counts { PutCounts faults result answer }
     ensures never_falls { faults ≤ result }
 {

@@ -17,12 +17,13 @@ mod shelf;
 mod sink;
 mod status;
 
+pub use counting::{count_put, count_read};
 pub use files::Files;
 pub use mem_files::MemFiles;
 pub use mem_shelf::{MemShelf, ShelfCall};
 pub use mem_sink::MemSink;
 pub use put::Put;
-pub use read_file::ReadFile;
+pub use read_file::{READ_LIMIT, ReadFile};
 pub use shelf::Shelf;
 pub use sink::Sink;
 pub use status::Status;

@@ -18,7 +18,7 @@ use psc_text::{Bytes, NoMemory, Text};
 use std::alloc::Global;
 
 /// A call that a shelf has answered.
-#[derive(Debug, Drop)]
+#[derive(Debug, PartialEq, Eq, Drop)]
 pub enum ShelfCall {
     Read {
         name: Text,

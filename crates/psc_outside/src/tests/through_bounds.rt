@@ -9,7 +9,7 @@ use psc_text::NoMemory;
 use std::alloc::Global;
 
 /// Puts two pieces, the second only where the first was taken.
-fn put_both<K: Sink>(
+pub(crate) fn put_both<K: Sink>(
     alloc: Global,
     out: &mut K,
     first: &[u8],
@@ -28,7 +28,7 @@ fn put_both<K: Sink>(
 }
 
 /// Keeps a copy of a file on the shelf, and says whether it did.
-fn keep<F: Files, S: Shelf>(
+pub(crate) fn keep<F: Files, S: Shelf>(
     alloc: Global,
     files: &mut F,
     shelf: &mut S,
