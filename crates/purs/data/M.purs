@@ -1,0 +1,2 @@
+module M where
+x = 1
