@@ -4,8 +4,8 @@
 //! that this compiler does not have. This crate knows nothing of expressions and declarations.
 #![tactic(auto)]
 
-mod kind;
+mod kinds;
 mod types;
 
-pub use kind::{kind, some_variables, variables};
+pub use kinds::{kind, some_variables, variables};
 pub use types::{atoms, constraints, one_atom, parse_type, sig, whole_type};

@@ -1,6 +1,6 @@
 //! Types, rows and constraints.
 
-use crate::kind::some_variables;
+use crate::kinds::some_variables;
 use psc_ast::{Constr, Mention, RowField, RowTree, Sig, TypePrefix, TypeStep, TypeTree};
 use psc_lex::{Sign, Tok};
 use psc_parse_base::{Fault, Next, Parsed, Sym, comes, content, eat, expect, ident, label, mention, peek, peek_second, sees, span_of, string, symbols, whole};

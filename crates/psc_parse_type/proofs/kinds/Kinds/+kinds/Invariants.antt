@@ -1,5 +1,5 @@
 use Rattle.std.proofs.Common.{◌*◌, ◌+◌}
-use Rattle.psc_parse_type.proofs.kind.Kinds.+kinds.Given as goal
+use Rattle.psc_parse_type.proofs.kinds.Kinds.+kinds.Given as goal
 
 abbrev pub decreases-inner : goal.decreases-inner
 decreases-inner l = 8 * l.self.now.depth + 1

@@ -1,0 +1,129 @@
+//! Module lines, and the head of a module: its line and the imports that it begins with.
+
+use crate::cut::{Left, cut_line, first_item, next_item};
+use crate::item::{NESTING_LIMIT, Piece, Wrong, error_at, piece};
+use crate::outside::{has_outside_form, names_builtin};
+use crate::refs::exports;
+use psc_ast::{Export, ImportTree, ModuleAt};
+use psc_error::{Code, PsError};
+use psc_lex::{Sign, lex_layout};
+use psc_parse_base::{Fault, Parsed, Sym, deepest, expect, module_name, sees, span_of, symbols};
+use psc_text::{ModuleName, NoMemory, Span};
+use sqlite_items::Items;
+use std::alloc::Global;
+
+/// What a module says of itself before its declarations.
+#[derive(Drop)]
+pub struct ModuleHead {
+    pub name: ModuleName,
+    pub name_span: Span,
+    pub imports: Items<ImportTree>,
+    /// The line of the module's `where`.
+    pub where_line: u32,
+}
+
+/// A module line.
+#[derive(Drop)]
+pub struct Line {
+    pub name: ModuleAt,
+    pub header: Span,
+    pub exports: Option<Items<Export>>,
+    pub where_line: u32,
+}
+
+/// The line of the symbol that comes next.
+fn line_of(syms: &[Sym]) -> u32 {
+    match syms {
+        [first, ..] => first.span.line,
+        [] => 1,
+    }
+}
+
+fn module_line(alloc: Global, syms: &[Sym]) -> Parsed<'_, Line> {
+    let rest = expect(syms, Sign::Module)?;
+    let header = span_of(syms, rest);
+    let (name, rest) = module_name(alloc, rest)?;
+    let (exports, rest) = exports(alloc, rest)?;
+    let where_line = line_of(rest);
+    let rest = expect(rest, Sign::Where)?;
+    Ok((Line { name, header, exports, where_line }, rest))
+}
+
+/// The place of a module line that fails: its first token, or the source's start.
+fn place(line: &[Sym]) -> Span {
+    match line {
+        [first, ..] => first.span,
+        [] => Span::START,
+    }
+}
+
+/// The module line, or what is wrong with it.
+fn checked_line(alloc: Global, line: &[Sym]) -> Result<Line, Wrong> {
+    if names_builtin(line) || has_outside_form(line) {
+        return Err(Wrong::Code(Code::OutsideProfile));
+    }
+    if deepest(alloc, line)? > NESTING_LIMIT {
+        return Err(Wrong::Code(Code::TooDeep));
+    }
+    match module_line(alloc, line) {
+        Ok((found, [])) => Ok(found),
+        Ok(_) | Err(Fault::Grammar) => Err(Wrong::Code(Code::ErrorParsingModule)),
+        Err(Fault::Outside) => Err(Wrong::Code(Code::OutsideProfile)),
+        Err(Fault::OutOfMemory) => Err(Wrong::OutOfMemory),
+    }
+}
+
+/// The module line, or the error at its first token.
+pub fn read_line(alloc: Global, line: &[Sym]) -> Result<Result<Line, PsError>, NoMemory> {
+    match checked_line(alloc, line) {
+        Ok(found) => Ok(Ok(found)),
+        Err(wrong) => Ok(Err(error_at(alloc, wrong, None, place(line))?)),
+    }
+}
+
+/// The imports with which a module begins, or the error of the first that fails.
+fn leading_imports(
+    alloc: Global,
+    name: &ModuleName,
+    body: &[Sym],
+) -> Result<Result<Items<ImportTree>, PsError>, NoMemory> {
+    let mut found = Items::new(alloc);
+    let mut left = first_item(body);
+    for _turn in 0..body.len() {
+        let Left::Item(syms, rest) = left else {
+            return Ok(Ok(found));
+        };
+        if !sees(syms, Sign::Import) {
+            return Ok(Ok(found));
+        }
+        match piece(alloc, syms) {
+            Ok(Piece::Import(import)) => found.push(import)?,
+            Ok(Piece::Decl(_)) => return Ok(Ok(found)),
+            Err(wrong) => {
+                let module = Some(name.clone()?);
+                return Ok(Err(error_at(alloc, wrong, module, span_of(syms, &[]))?));
+            }
+        }
+        left = next_item(rest);
+    }
+    Ok(Ok(found))
+}
+
+/// The head of a module: its line and its leading imports.
+///
+/// Err as `parse` has it where the module line or one of these imports is the first item that fails.
+pub fn header(alloc: Global, source: &str) -> Result<Result<ModuleHead, PsError>, NoMemory> {
+    let toks = lex_layout(alloc, source)?;
+    let syms = symbols(alloc, toks.as_slice())?;
+    let (line, body) = cut_line(syms.as_slice());
+    let line = match read_line(alloc, line)? {
+        Ok(line) => line,
+        Err(error) => return Ok(Err(error)),
+    };
+    let Line { name, where_line, .. } = line;
+    let ModuleAt { name, span } = name;
+    match leading_imports(alloc, &name, body)? {
+        Ok(imports) => Ok(Ok(ModuleHead { name, name_span: span, imports, where_line })),
+        Err(error) => Ok(Err(error)),
+    }
+}

@@ -1,0 +1,239 @@
+//! Items one after another, and the first error among them.
+
+use crate::cut::{Left, cut_line, first_item, next_item};
+use crate::decls::decl;
+use crate::head::{Line, read_line};
+use crate::outside::has_outside_form;
+use crate::range::{WideLiteral, first_wide};
+use crate::refs::import;
+use psc_ast::{Decl, ImportTree, Module};
+use psc_error::{Code, PsError};
+use psc_items::SharedItems;
+use psc_lex::{Sign, lex_layout};
+use psc_parse_base::{Fault, Parsed, Sym, deepest, sees, span_of, symbols};
+use psc_text::{ModuleName, NoMemory, Span, Text};
+use sqlite_items::Items;
+use std::alloc::{AllocError, Global};
+
+/// The deepest nesting that an item may have.
+pub const NESTING_LIMIT: u32 = 200;
+
+/// An item as it is read.
+#[derive(Drop)]
+pub enum Piece {
+    Import(ImportTree),
+    Decl(Decl),
+}
+
+/// What is wrong with an item.
+#[derive(Drop)]
+pub enum Wrong {
+    OutOfMemory,
+    /// At the item.
+    Code(Code),
+    /// IntOutOfRange, at the literal.
+    Wide(WideLiteral),
+}
+
+impl From<NoMemory> for Wrong {
+    fn from(_error: NoMemory) -> Wrong {
+        Wrong::OutOfMemory
+    }
+}
+
+impl From<AllocError> for Wrong {
+    fn from(_error: AllocError) -> Wrong {
+        Wrong::OutOfMemory
+    }
+}
+
+/// What is wrong where a rule reads nothing.
+fn wrong_of(fault: Fault) -> Wrong {
+    match fault {
+        Fault::OutOfMemory => Wrong::OutOfMemory,
+        Fault::Outside => Wrong::Code(Code::OutsideProfile),
+        Fault::Grammar => Wrong::Code(Code::ErrorParsingModule),
+    }
+}
+
+fn any_piece(alloc: Global, item: &[Sym]) -> Parsed<'_, Piece> {
+    if sees(item, Sign::Import) {
+        let (found, rest) = import(alloc, item)?;
+        return Ok((Piece::Import(found), rest));
+    }
+    let (found, rest) = decl(alloc, item)?;
+    Ok((Piece::Decl(found), rest))
+}
+
+/// An item whose literals may be out of range yet.
+fn unchecked_piece(alloc: Global, item: &[Sym]) -> Result<Piece, Wrong> {
+    if has_outside_form(item) {
+        return Err(Wrong::Code(Code::OutsideProfile));
+    }
+    if deepest(alloc, item)? > NESTING_LIMIT {
+        return Err(Wrong::Code(Code::TooDeep));
+    }
+    match any_piece(alloc, item) {
+        Ok((found, [])) => Ok(found),
+        Ok(_) => Err(Wrong::Code(Code::ErrorParsingModule)),
+        Err(fault) => Err(wrong_of(fault)),
+    }
+}
+
+/// An item, wherever it stands, or the first thing that is wrong with it.
+pub fn piece(alloc: Global, item: &[Sym]) -> Result<Piece, Wrong> {
+    let found = unchecked_piece(alloc, item)?;
+    in_range(alloc, item, found)
+}
+
+fn in_range(alloc: Global, item: &[Sym], found: Piece) -> Result<Piece, Wrong> {
+    match first_wide(alloc, item)? {
+        Some(literal) => Err(Wrong::Wide(literal)),
+        None => Ok(found),
+    }
+}
+
+fn coded(
+    alloc: Global,
+    code: Code,
+    module: Option<ModuleName>,
+    span: Span,
+    part: Option<Text>,
+) -> Result<PsError, NoMemory> {
+    let mut parts = Vec::new(alloc);
+    if let Some(part) = part {
+        parts.push(part)?;
+    }
+    let parts = SharedItems::from_vec(alloc, parts)?;
+    Ok(PsError { code, module, span, parts })
+}
+
+/// The error of an item that reaches over `span`.
+pub fn error_at(
+    alloc: Global,
+    wrong: Wrong,
+    module: Option<ModuleName>,
+    span: Span,
+) -> Result<PsError, NoMemory> {
+    match wrong {
+        Wrong::OutOfMemory => Err(NoMemory),
+        Wrong::Code(code) => coded(alloc, code, module, span, None),
+        Wrong::Wide(WideLiteral { text, span }) => {
+            coded(alloc, Code::IntOutOfRange, module, span, Some(text))
+        }
+    }
+}
+
+/// The items of a module so far.
+#[derive(Drop)]
+struct Pieces {
+    imports: Items<ImportTree>,
+    decls: Items<Decl>,
+}
+
+impl Pieces {
+    /// Whether the item may stand behind those so far: an import before all declarations, and what begins with `else`
+    /// behind an instance of its class.
+    fn may_follow(&self, next: &Piece) -> bool {
+        match next {
+            Piece::Import(_) => self.decls.is_empty(),
+            Piece::Decl(Decl::Instance(instance)) if instance.goes_on => match self.decls.as_slice() {
+                [.., Decl::Instance(last)] => last.class.name.same(&instance.class.name),
+                _ => false,
+            },
+            Piece::Decl(_) => true,
+        }
+    }
+
+    fn push(&mut self, next: Piece) -> Result<(), NoMemory> {
+        match next {
+            Piece::Import(import) => self.imports.push(import)?,
+            Piece::Decl(decl) => self.decls.push(decl)?,
+        }
+        Ok(())
+    }
+
+    /// Reads one more item.
+    fn read(&mut self, alloc: Global, item: &[Sym]) -> Result<(), Wrong> {
+        let found = unchecked_piece(alloc, item)?;
+        if !self.may_follow(&found) {
+            return Err(Wrong::Code(Code::ErrorParsingModule));
+        }
+        self.push(in_range(alloc, item, found)?)?;
+        Ok(())
+    }
+}
+
+/// A token behind the module's block is an item by itself, and fails.
+fn behind(syms: &[Sym]) -> Option<(&[Sym], Code)> {
+    let first = syms.get(..1)?;
+    let code = if has_outside_form(first) { Code::OutsideProfile } else { Code::ErrorParsingModule };
+    Some((first, code))
+}
+
+/// What is wrong with the first item of a block that fails, and that item.
+struct Failed<'a> {
+    wrong: Wrong,
+    item: &'a [Sym],
+}
+
+/// Reads all items of the module's block.
+fn read_pieces<'a>(alloc: Global, body: &'a [Sym], pieces: &mut Pieces) -> Result<(), Failed<'a>> {
+    let mut left = first_item(body);
+    for _turn in 0..body.len() {
+        match left {
+            Left::Behind(rest) => {
+                return match behind(rest) {
+                    Some((item, code)) => Err(Failed { wrong: Wrong::Code(code), item }),
+                    None => Ok(()),
+                };
+            }
+            Left::Item(item, rest) => {
+                if let Err(wrong) = pieces.read(alloc, item) {
+                    return Err(Failed { wrong, item });
+                }
+                left = next_item(rest);
+            }
+        }
+    }
+    Ok(())
+}
+
+/// The module of a line and the items behind it; `syms` is all of its source.
+fn joined(line: Line, pieces: Pieces, syms: &[Sym]) -> Module {
+    let Line { name, header, exports, where_line } = line;
+    let Pieces { imports, decls } = pieces;
+    Module { name, header, where_line, exports, imports, decls, span: span_of(syms, &[]) }
+}
+
+/// The module that a source spells.
+///
+/// Err of the first item that fails, where the module line is the first item of all: OutsideProfile where a form of
+/// PureScript stands in it that this compiler does not have; else TooDeep where it nests deeper than `NESTING_LIMIT`; else
+/// IntOutOfRange at a literal that is no 32-bit signed integer, with the literal as its part, where the item is of the
+/// grammar; else ErrorParsingModule. The place is that of the item; for the module line it is that of its first token.
+pub fn parse(alloc: Global, source: &str) -> Result<Result<Module, PsError>, NoMemory> {
+    let toks = lex_layout(alloc, source)?;
+    let syms = symbols(alloc, toks.as_slice())?;
+    let (line, body) = cut_line(syms.as_slice());
+    let line = match read_line(alloc, line)? {
+        Ok(line) => line,
+        Err(error) => return Ok(Err(error)),
+    };
+    let mut pieces = Pieces { imports: Items::new(alloc), decls: Items::new(alloc) };
+    match read_pieces(alloc, body, &mut pieces) {
+        Ok(()) => Ok(Ok(joined(line, pieces, syms.as_slice()))),
+        Err(Failed { wrong, item }) => {
+            let module = Some(line.name.name.clone()?);
+            Ok(Err(error_at(alloc, wrong, module, span_of(item, &[]))?))
+        }
+    }
+}
+
+/// The module that a file's bytes spell: as `parse`, and ErrorParsingModule at the source's start where they are not UTF-8.
+pub fn parse_bytes(alloc: Global, source: &[u8]) -> Result<Result<Module, PsError>, NoMemory> {
+    match str::from_utf8(source) {
+        Ok(text) => parse(alloc, text),
+        Err(_) => Ok(Err(coded(alloc, Code::ErrorParsingModule, None, Span::START, None)?)),
+    }
+}
