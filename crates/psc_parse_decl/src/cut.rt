@@ -1,5 +1,7 @@
 //! A module's symbols as its line and its items.
 
+ghost use Rattle.std.specs.Prelude.{◌≡◌, ◌++◌};
+
 use psc_lex::Sign;
 use psc_parse_base::{Next, Sym, eat_next};
 
@@ -32,12 +34,17 @@ fn item_length(syms: &[Sym]) -> usize {
     length
 }
 
-fn cut(syms: &[Sym], at: usize) -> (&[Sym], &[Sym]) {
+/// The symbols before the place and those behind it.
+fn cut(syms: &[Sym], at: usize) -> (&[Sym], &[Sym])
+    ensures { syms.now ≡ result.0.now ++ result.1.now }
+{
     if at <= syms.len() { syms.split_at(at) } else { (syms, &[]) }
 }
 
 /// The module line up to its `where`, and what stands behind it.
-pub fn cut_line(syms: &[Sym]) -> (&[Sym], &[Sym]) {
+pub fn cut_line(syms: &[Sym]) -> (&[Sym], &[Sym])
+    ensures { syms.now ≡ result.0.now ++ result.1.now }
+{
     cut(syms, line_length(syms))
 }
 

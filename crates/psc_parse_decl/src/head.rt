@@ -1,13 +1,14 @@
 //! Module lines, and the head of a module: its line and the imports that it begins with.
 
 use crate::cut::{Left, cut_line, first_item, next_item};
-use crate::item::{NESTING_LIMIT, Piece, Wrong, error_at, piece};
+use crate::item::{Piece, piece};
 use crate::outside::{has_outside_form, names_builtin};
 use crate::refs::exports;
+use crate::verdict::{Wrong, error_at, refusal, wrong_of};
 use psc_ast::{Export, ImportTree, ModuleAt};
 use psc_error::{Code, PsError};
 use psc_lex::{Sign, lex_layout};
-use psc_parse_base::{Fault, Parsed, Sym, deepest, expect, module_name, sees, span_of, symbols};
+use psc_parse_base::{Parsed, Sym, deepest, expect, module_name, sees, span_of, symbols};
 use psc_text::{ModuleName, NoMemory, Span};
 use sqlite_items::Items;
 use std::alloc::Global;
@@ -59,17 +60,14 @@ fn place(line: &[Sym]) -> Span {
 
 /// The module line, or what is wrong with it.
 fn checked_line(alloc: Global, line: &[Sym]) -> Result<Line, Wrong> {
-    if names_builtin(line) || has_outside_form(line) {
-        return Err(Wrong::Code(Code::OutsideProfile));
-    }
-    if deepest(alloc, line)? > NESTING_LIMIT {
-        return Err(Wrong::Code(Code::TooDeep));
+    let is_outside = names_builtin(line) || has_outside_form(line);
+    if let Some(code) = refusal(is_outside, deepest(alloc, line)?) {
+        return Err(Wrong::Code(code));
     }
     match module_line(alloc, line) {
         Ok((found, [])) => Ok(found),
-        Ok(_) | Err(Fault::Grammar) => Err(Wrong::Code(Code::ErrorParsingModule)),
-        Err(Fault::Outside) => Err(Wrong::Code(Code::OutsideProfile)),
-        Err(Fault::OutOfMemory) => Err(Wrong::OutOfMemory),
+        Ok(_) => Err(Wrong::Code(Code::ErrorParsingModule)),
+        Err(fault) => Err(wrong_of(fault)),
     }
 }
 

@@ -4,56 +4,22 @@ use crate::cut::{Left, cut_line, first_item, next_item};
 use crate::decls::decl;
 use crate::head::{Line, read_line};
 use crate::outside::has_outside_form;
-use crate::range::{WideLiteral, first_wide};
+use crate::range::first_wide;
 use crate::refs::import;
+use crate::verdict::{Wrong, error_at, refusal, wrong_of};
 use psc_ast::{Decl, ImportTree, Module};
 use psc_error::{Code, PsError};
-use psc_items::SharedItems;
 use psc_lex::{Sign, lex_layout};
-use psc_parse_base::{Fault, Parsed, Sym, deepest, sees, span_of, symbols};
-use psc_text::{ModuleName, NoMemory, Span, Text};
+use psc_parse_base::{Parsed, Sym, deepest, sees, span_of, symbols};
+use psc_text::{NoMemory, Span};
 use sqlite_items::Items;
-use std::alloc::{AllocError, Global};
-
-/// The deepest nesting that an item may have.
-pub const NESTING_LIMIT: u32 = 200;
+use std::alloc::Global;
 
 /// An item as it is read.
 #[derive(Drop)]
 pub enum Piece {
     Import(ImportTree),
     Decl(Decl),
-}
-
-/// What is wrong with an item.
-#[derive(Drop)]
-pub enum Wrong {
-    OutOfMemory,
-    /// At the item.
-    Code(Code),
-    /// IntOutOfRange, at the literal.
-    Wide(WideLiteral),
-}
-
-impl From<NoMemory> for Wrong {
-    fn from(_error: NoMemory) -> Wrong {
-        Wrong::OutOfMemory
-    }
-}
-
-impl From<AllocError> for Wrong {
-    fn from(_error: AllocError) -> Wrong {
-        Wrong::OutOfMemory
-    }
-}
-
-/// What is wrong where a rule reads nothing.
-fn wrong_of(fault: Fault) -> Wrong {
-    match fault {
-        Fault::OutOfMemory => Wrong::OutOfMemory,
-        Fault::Outside => Wrong::Code(Code::OutsideProfile),
-        Fault::Grammar => Wrong::Code(Code::ErrorParsingModule),
-    }
 }
 
 fn any_piece(alloc: Global, item: &[Sym]) -> Parsed<'_, Piece> {
@@ -67,11 +33,8 @@ fn any_piece(alloc: Global, item: &[Sym]) -> Parsed<'_, Piece> {
 
 /// An item whose literals may be out of range yet.
 fn unchecked_piece(alloc: Global, item: &[Sym]) -> Result<Piece, Wrong> {
-    if has_outside_form(item) {
-        return Err(Wrong::Code(Code::OutsideProfile));
-    }
-    if deepest(alloc, item)? > NESTING_LIMIT {
-        return Err(Wrong::Code(Code::TooDeep));
+    if let Some(code) = refusal(has_outside_form(item), deepest(alloc, item)?) {
+        return Err(Wrong::Code(code));
     }
     match any_piece(alloc, item) {
         Ok((found, [])) => Ok(found),
@@ -90,37 +53,6 @@ fn in_range(alloc: Global, item: &[Sym], found: Piece) -> Result<Piece, Wrong> {
     match first_wide(alloc, item)? {
         Some(literal) => Err(Wrong::Wide(literal)),
         None => Ok(found),
-    }
-}
-
-fn coded(
-    alloc: Global,
-    code: Code,
-    module: Option<ModuleName>,
-    span: Span,
-    part: Option<Text>,
-) -> Result<PsError, NoMemory> {
-    let mut parts = Vec::new(alloc);
-    if let Some(part) = part {
-        parts.push(part)?;
-    }
-    let parts = SharedItems::from_vec(alloc, parts)?;
-    Ok(PsError { code, module, span, parts })
-}
-
-/// The error of an item that reaches over `span`.
-pub fn error_at(
-    alloc: Global,
-    wrong: Wrong,
-    module: Option<ModuleName>,
-    span: Span,
-) -> Result<PsError, NoMemory> {
-    match wrong {
-        Wrong::OutOfMemory => Err(NoMemory),
-        Wrong::Code(code) => coded(alloc, code, module, span, None),
-        Wrong::Wide(WideLiteral { text, span }) => {
-            coded(alloc, Code::IntOutOfRange, module, span, Some(text))
-        }
     }
 }
 
@@ -234,6 +166,9 @@ pub fn parse(alloc: Global, source: &str) -> Result<Result<Module, PsError>, NoM
 pub fn parse_bytes(alloc: Global, source: &[u8]) -> Result<Result<Module, PsError>, NoMemory> {
     match str::from_utf8(source) {
         Ok(text) => parse(alloc, text),
-        Err(_) => Ok(Err(coded(alloc, Code::ErrorParsingModule, None, Span::START, None)?)),
+        Err(_) => {
+            let wrong = Wrong::Code(Code::ErrorParsingModule);
+            Ok(Err(error_at(alloc, wrong, None, Span::START)?))
+        }
     }
 }

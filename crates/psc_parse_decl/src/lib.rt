@@ -14,6 +14,8 @@ mod item;
 mod outside;
 mod range;
 mod refs;
+mod verdict;
 
 pub use head::{ModuleHead, header};
-pub use item::{NESTING_LIMIT, parse, parse_bytes};
+pub use item::{parse, parse_bytes};
+pub use verdict::NESTING_LIMIT;

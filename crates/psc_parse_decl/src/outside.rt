@@ -94,9 +94,60 @@ fn begins_outside(item: &[Sym]) -> bool {
     }
 }
 
-/// Whether a token of the item, or how it begins, is of a form that this compiler does not have.
+/// Whether an item begins as an instance.
+fn begins_instance(item: &[Sym]) -> bool {
+    match item {
+        [first, ..] if first.next == Next::Token(Sign::Instance) => true,
+        [first, second, ..] => {
+            first.next == Next::Token(Sign::Else) && second.next == Next::Token(Sign::Instance)
+        }
+        _ => false,
+    }
+}
+
+/// Whether an item of a block begins as a signature.
+fn begins_signature(syms: &[Sym]) -> bool {
+    match syms {
+        [mark, name, colons, ..] => {
+            mark.next == Next::Item && is_lower(name.next) && colons.next == Next::Token(Sign::DoubleColon)
+        }
+        _ => false,
+    }
+}
+
+fn is_lower(next: Next) -> bool {
+    match next {
+        Next::Token(sign) => sign.is_lower(),
+        _ => false,
+    }
+}
+
+/// Whether a member of an instance is a signature: an item of its block, and of no block inside that.
+fn has_member_signature(item: &[Sym]) -> bool {
+    let mut depth: usize = 0;
+    let mut rest = item;
+    for _turn in 0..item.len() {
+        let [first, after @ ..] = rest else {
+            return false;
+        };
+        if depth == 1 && begins_signature(rest) {
+            return true;
+        }
+        if first.next == Next::Open {
+            depth = depth.saturating_add(1);
+        } else if first.next == Next::Close {
+            depth = depth.saturating_sub(1);
+        }
+        rest = after;
+    }
+    false
+}
+
+/// Whether a token of the item, how it begins, or a member of an instance is of a form that this compiler does not have.
 pub fn has_outside_form(item: &[Sym]) -> bool {
-    begins_outside(item) || item.iter().any(is_outside)
+    begins_outside(item)
+        || item.iter().any(is_outside)
+        || begins_instance(item) && has_member_signature(item)
 }
 
 /// Whether a module line names a module that belongs to the compiler.
