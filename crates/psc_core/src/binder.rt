@@ -1,11 +1,11 @@
 //! Binders: what an alternative compares a value with.
 
 use crate::ann::Ann;
-use crate::literal::Literal;
-use psc_text::{Ident, Qualified};
+use psc_text::{Ident, Label, Qualified, Text};
 use sqlite_items::{Boxed, Items};
 
 /// A pattern. A name of a constructor or of a type has its module.
+#[cycle(binder)]
 #[derive(Drop)]
 pub enum CoreBinder {
     /// `_`
@@ -14,7 +14,7 @@ pub enum CoreBinder {
     },
     Literal {
         ann: Ann,
-        value: Literal<CoreBinder>,
+        value: BinderLiteral,
     },
     Var {
         ann: Ann,
@@ -32,4 +32,25 @@ pub enum CoreBinder {
         name: Ident,
         binder: Boxed<CoreBinder>,
     },
+}
+
+/// A literal of a binder.
+#[cycle(binder)]
+#[derive(Drop)]
+pub enum BinderLiteral {
+    Int(i32),
+    Str(Text),
+    Char(char),
+    Bool(bool),
+    Array(Items<CoreBinder>),
+    /// The fields in the order of the source. A value may have others.
+    Object(Items<BinderField>),
+}
+
+/// A binder under a label.
+#[cycle(binder)]
+#[derive(Drop)]
+pub struct BinderField {
+    pub label: Label,
+    pub value: CoreBinder,
 }

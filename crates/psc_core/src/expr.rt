@@ -13,7 +13,7 @@ use sqlite_items::{Boxed, Items};
 pub enum CoreExpr {
     Literal {
         ann: Ann,
-        value: Literal<CoreExpr>,
+        value: Literal,
     },
     /// The function that makes a value of a data type. It stands only as a constructor's own binding.
     Constructor {
@@ -31,7 +31,7 @@ pub enum CoreExpr {
     ObjectUpdate {
         ann: Ann,
         subject: Boxed<CoreExpr>,
-        updates: Items<Field<CoreExpr>>,
+        updates: Items<Field>,
     },
     Abs {
         ann: Ann,

@@ -11,7 +11,7 @@ mod literal;
 mod module;
 
 pub use ann::{Ann, Meta};
-pub use binder::CoreBinder;
+pub use binder::{BinderField, BinderLiteral, CoreBinder};
 pub use expr::{CoreAlternative, CoreBind, CoreBinding, CoreExpr, CoreGuarded, CoreOutcome};
 pub use literal::{Field, Literal};
 pub use module::{CoreModule, ReExport};

@@ -1,23 +1,26 @@
-//! Literals, of expressions and of binders alike.
+//! Literals of expressions.
 
+use crate::expr::CoreExpr;
 use psc_text::{Label, Text};
 use sqlite_items::Items;
 
-/// A literal whose parts are values of `T`.
+/// A literal of an expression.
+#[cycle(core)]
 #[derive(Drop)]
-pub enum Literal<T> {
+pub enum Literal {
     Int(i32),
     Str(Text),
     Char(char),
     Bool(bool),
-    Array(Items<T>),
+    Array(Items<CoreExpr>),
     /// The fields in the order of the source.
-    Object(Items<Field<T>>),
+    Object(Items<Field>),
 }
 
-/// A value under its label.
+/// An expression under a label.
+#[cycle(core)]
 #[derive(Drop)]
-pub struct Field<T> {
+pub struct Field {
     pub label: Label,
-    pub value: T,
+    pub value: CoreExpr,
 }
