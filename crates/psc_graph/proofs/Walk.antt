@@ -30,6 +30,9 @@ pub all_last : (v : ℕ → Tree) (n : ℕ) (xs ys : List ℕ) → AllWithin v n
 all_last v n [] ys h = (tt, h)
 all_last v n (x ∷ xs) ys h = let r = all_last v n xs ys h.1 in ((h.0, r.0), r.1)
 
+pub popped_within : (v : ℕ → Tree) (n : ℕ) (all work : List ℕ) (last : ℕ) → all ≡ work ++ last ∷ [] → AllWithin v n all → AllWithin v n work × (size (v last) ≤ n)
+popped_within v n all work last e h = let r = all_last v n work (last ∷ []) (rw e at h) in (r.0, r.1.0)
+
 pub all_parts : (v : ℕ → Tree) (nodes : List Node) (k : ℕ) (node : Node) (n : ℕ) → Solves v nodes → slice_get nodes k ≡ Some node → size (v k) ≤ n → AllWithin v n (parts_of node)
 all_parts v nodes k (Free s) n sol e h = tt
 all_parts v nodes k (Link j) n sol e h = tt

@@ -6,14 +6,15 @@ use Rattle.psc_graph.specs.declared.node.Node.{Node}
 use Rattle.psc_graph.specs.declared.node.Leaf.{Leaf}
 use Rattle.psc_graph.specs.declared.node.Former.{Former}
 use Rattle.psc_graph.specs.declared.node.Node.TheVariants.{Free, Link, Atom, Join, Field}
-use Rattle.psc_graph.specs.declared.node.Leaf.TheVariants.{Rigid, Constant, Bound}
-use Rattle.psc_graph.specs.declared.node.Former.TheVariants.{Apply, Binder}
+use Rattle.psc_graph.specs.declared.node.Leaf.TheVariants.{Rigid, Constant, Bound, NoArgument}
+use Rattle.psc_graph.specs.declared.node.Former.TheVariants.{Apply, Forall, Given, Argument}
 
 -- the kind of a tree, where it has no bound variable and no binder; 0 is the kind of rows
 abbrev pub leaf_kind : Leaf → Option ℕ
 leaf_kind (Rigid r k) = Some k
 leaf_kind (Constant c k) = Some k
 leaf_kind (Bound i) = None
+leaf_kind NoArgument = None
 
 abbrev pub both : Option ℕ → Option ℕ → ℕ → Option ℕ
 both None y k = None
@@ -22,7 +23,9 @@ both (Some a) (Some b) k = Some k
 
 abbrev pub join_kind : Former → Option ℕ → Option ℕ → Option ℕ
 join_kind (Apply k) x y = both x y k
-join_kind (Binder b) x y = None
+join_kind (Forall k) x y = None
+join_kind (Given c) x y = None
+join_kind Argument x y = None
 
 abbrev pub row_kind : Option ℕ → Option ℕ → Option ℕ
 row_kind None y = None

@@ -1,9 +1,7 @@
 -- Types as trees. The unknowns in a tree are places of nodes, with the number of their kind.
-use Rattle.std.specs.Prelude.{◌≡◌, ℕ, ◌+◌, Option, Some, None, cond, leb, eqb, zero, suc}
+use Rattle.std.specs.Prelude.{◌≡◌, ℕ, ◌+◌, cond, leb, eqb}
 use Rattle.psc_graph.specs.declared.node.Leaf.{Leaf}
 use Rattle.psc_graph.specs.declared.node.Former.{Former}
-use Rattle.psc_graph.specs.declared.node.Leaf.TheVariants.{Rigid, Constant, Bound}
-use Rattle.psc_graph.specs.declared.node.Former.TheVariants.{Apply, Binder}
 
 pub data Tree : Type 0 where
   Hole : ℕ → ℕ → Tree

@@ -20,7 +20,7 @@ fn kind_of_leaf(leaf: Leaf) -> Option<u64>
     match leaf {
         Leaf::Rigid(_, kind) => Some(kind),
         Leaf::Constant(_, kind) => Some(kind),
-        Leaf::Bound(_) => None,
+        Leaf::Bound(_) | Leaf::NoArgument => None,
     }
 }
 
@@ -28,7 +28,7 @@ fn kind_of_join(former: Former, left: Option<u64>, right: Option<u64>) -> Option
     ensures { result ≡ join_kind former left right }
 {
     match former {
-        Former::Binder(_) => None,
+        Former::Forall(_) | Former::Given(_) | Former::Argument => None,
         Former::Apply(kind) => match left {
             None => None,
             Some(_) => match right {

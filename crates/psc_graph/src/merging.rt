@@ -49,7 +49,16 @@ fn is_alike(nodes: &[Node], x: Node, y: Node) -> bool
             }
             are_same_places(nodes, left, right, other_left, other_right)
         }
-        Node::Free(_) | Node::Link(_) | Node::Field(_, _, _) => false,
+        Node::Field(label, head, rest) => {
+            let Node::Field(other, other_head, other_rest) = y else {
+                return false;
+            };
+            if label != other {
+                return false;
+            }
+            are_same_places(nodes, head, rest, other_head, other_rest)
+        }
+        Node::Free(_) | Node::Link(_) => false,
     }
 }
 

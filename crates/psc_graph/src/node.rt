@@ -3,21 +3,26 @@
 use psc_text::NoMemory;
 use std::alloc::{AllocError, AllocFailed};
 
-/// A type without parts. `Rigid` and `Constant` have a number and the number of their kind; `Bound`
-/// is a variable of the `forall` that is so many binders out, or another mark that only types under
-/// binders have.
+/// A type without parts. `Rigid` and `Constant` have a number and the number of their kind. `Bound`
+/// is the variable of the `forall` that is so many `forall`s further out, and `NoArgument` ends the
+/// arguments of a constraint: these two stand under binders alone.
 #[derive(Clone, Copy, Debug, PartialEq, Eq)]
 pub enum Leaf {
     Rigid(u64, u64),
     Constant(u64, u64),
     Bound(u64),
+    NoArgument,
 }
 
-/// What joins two types: an application, by the number of its kind, or a binder, by its own number.
+/// What joins two types: an application, by the number of its kind; a `forall`, by the number of its
+/// variable's kind, over its body alone; a constraint, by the number of its class, over its arguments
+/// and the type that it is asked for; an argument, before the further ones.
 #[derive(Clone, Copy, Debug, PartialEq, Eq)]
 pub enum Former {
     Apply(u64),
-    Binder(u64),
+    Forall(u64),
+    Given(u64),
+    Argument,
 }
 
 /// A node. An unknown of a kind is free until it is linked to the node that it equals. A field is a
@@ -54,6 +59,12 @@ impl From<AllocError> for Stop {
 
 impl From<NoMemory> for Stop {
     fn from(_error: NoMemory) -> Stop {
+        Stop::Memory
+    }
+}
+
+impl<T: Drop> From<AllocFailed<T>> for Stop {
+    fn from(_error: AllocFailed<T>) -> Stop {
         Stop::Memory
     }
 }

@@ -122,11 +122,11 @@ fn is_in_either(
     let mut seen = nothing_seen(alloc);
     let mut work = pair(alloc, left, right)?;
     for _ in 0..u64::MAX {
-        let Some(at) = take_note(&mut work) else {
-            return Ok(false);
-        };
-        if visit(nodes, root, &mut seen, &mut work, at)? {
-            return Ok(true);
+        match take_note(&mut work) {
+            None => return Ok(false),
+            Some(at) => if visit(nodes, root, &mut seen, &mut work, at)? {
+                return Ok(true);
+            },
         }
     }
     Err(Stop::Memory)
@@ -150,6 +150,6 @@ pub fn is_inside(
     match node {
         Node::Join(_, left, right) => is_in_either(alloc, nodes, root, left, right),
         Node::Field(_, head, rest) => is_in_either(alloc, nodes, root, head, rest),
-        Node::Free(_) | Node::Link(_) | Node::Atom(_) => Ok(false),
+        _ => Ok(false),
     }
 }
