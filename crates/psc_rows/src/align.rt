@@ -5,6 +5,7 @@ use psc_graph::Stop;
 use std::alloc::Global;
 
 /// The places of the types of equal labels in order, and the fields that only one side has.
+#[derive(Drop)]
 pub struct Aligned {
     pub pairs: Vec<(usize, usize)>,
     pub left: Vec<Field>,

@@ -12,6 +12,7 @@ pub struct Field {
 }
 
 /// The fields of a row in order, and the place of its tail, which is no field.
+#[derive(Drop)]
 pub struct Row {
     pub fields: Vec<Field>,
     pub tail: usize,

@@ -1,4 +1,7 @@
 // A graph of nodes with their kinds, and the nodes that were overwritten.
+ghost use Rattle.std.specs.Prelude.{◌≡◌, ◌∷◌, ◌++◌, [], length, OnOk, IfOk, true, slice_get, Some, Err};
+ghost use Rattle.psc_graph.specs.Model.{IsInside};
+ghost use Rattle.psc_graph.specs.General.{Grows, IsReady};
 
 use psc_graph::{Node, Stop, push_node};
 use std::alloc::Global;
@@ -18,9 +21,37 @@ pub struct Graph {
     pub writes: Vec<Write>,
 }
 
+/// Whether the parts of a node are places in the graph.
+fn is_inside_graph(nodes: &[Node], node: Node) -> bool
+    ensures { result ≡ true → IsInside (length nodes.now) node }
+{
+    let length = nodes.len();
+    match node {
+        Node::Free(_) | Node::Atom(_) => true,
+        Node::Link(to) => to < length,
+        Node::Join(_, left, right) => {
+            if left < length {
+                right < length
+            } else {
+                false
+            }
+        }
+        Node::Field(_, head, rest) => {
+            if head < length {
+                rest < length
+            } else {
+                false
+            }
+        }
+    }
+}
+
 impl Graph {
     /// The graph without nodes.
-    pub fn new(alloc: Global) -> Graph {
+    pub fn new(alloc: Global) -> Graph
+        ensures nodes { result.nodes.items ≡ [] }
+        ensures kinds { result.kinds.items ≡ [] }
+    {
         Graph {
             nodes: Vec::new(alloc),
             kinds: Vec::new(alloc),
@@ -29,7 +60,14 @@ impl Graph {
     }
 
     /// Adds a node at the end, and gives its place. The parts of the node are places in the graph.
-    pub fn push(&mut self, node: Node) -> Result<usize, Stop> {
+    pub fn push(&mut self, node: Node) -> Result<usize, Stop>
+        ensures grows { OnOk result (Grows self.old.nodes.items self.new.nodes.items) }
+        ensures ready { OnOk result (IsReady self.old.nodes.items self.old.kinds.items → IsReady self.new.nodes.items self.new.kinds.items) }
+        ensures place { IfOk result (λ r. slice_get self.new.nodes.items r ≡ Some node) }
+        ensures last { IfOk result (λ r. r ≡ length self.old.nodes.items) }
+        ensures pushed { OnOk result (self.new.nodes.items ≡ self.old.nodes.items ++ node ∷ []) }
+        ensures clash { result ≡ Err Stop.Clash → ⊥ }
+    {
         if !is_inside_graph(self.nodes.as_slice(), node) {
             return Err(Stop::Memory);
         }
@@ -37,7 +75,11 @@ impl Graph {
     }
 
     /// Remembers the node at a place, which is about to be overwritten.
-    pub fn remember(&mut self, place: usize, node: Node) -> Result<(), Stop> {
+    pub fn remember(&mut self, place: usize, node: Node) -> Result<(), Stop>
+        ensures nodes { self.new.nodes ≡ self.old.nodes }
+        ensures kinds { self.new.kinds ≡ self.old.kinds }
+        ensures clash { result ≡ Err Stop.Clash → ⊥ }
+    {
         match self.writes.push(Write { place, node }) {
             Ok(()) => Ok(()),
             Err(_) => Err(Stop::Memory),
@@ -59,15 +101,5 @@ impl Graph {
         }
         self.nodes.truncate(length);
         self.kinds.truncate(length);
-    }
-}
-
-fn is_inside_graph(nodes: &[Node], node: Node) -> bool {
-    let length = nodes.len();
-    match node {
-        Node::Free(_) | Node::Atom(_) => true,
-        Node::Link(to) => to < length,
-        Node::Join(_, left, right) => left < length && right < length,
-        Node::Field(_, head, rest) => head < length && rest < length,
     }
 }

@@ -1,4 +1,5 @@
 // The steps of solving, and the loop over them.
+ghost use Rattle.std.specs.Prelude.{◌≡◌, ℕ, slice_get, Some};
 
 use crate::graph::Graph;
 use crate::rows::relate_rows;
@@ -48,7 +49,12 @@ fn bind_at(
     kind: u64,
     to: usize,
     node: Node,
-) -> Result<(), Stop> {
+) -> Result<(), Stop>
+    requires free { slice_get graph.old.nodes.items unknown ≡ Some (Node.Free kind) }
+    requires target { slice_get graph.old.nodes.items to ≡ Some node }
+    requires apart { unknown ≡ to → ⊥ }
+    requires ends { (j : ℕ) → node ≡ Node.Link j → ⊥ }
+{
     graph.remember(unknown, Node::Free(kind))?;
     bind(alloc, graph.nodes.as_mut_slice(), graph.kinds.as_slice(), unknown, kind, to, node)
 }

@@ -5,8 +5,8 @@
 //! value get scopes within it. Knows nothing of names: a rigid variable stands here by its number.
 #![tactic(auto)]
 
-mod narrow;
 mod table;
+mod walk;
 
-pub use narrow::{Bounds, narrow};
 pub use table::ScopeTable;
+pub use walk::{Bounds, narrow};

@@ -10,12 +10,14 @@ use std::alloc::Global;
 use std::collections::BTreeMap;
 
 /// A node that is to be looked at, or whose parts are read.
+#[derive(Clone, Copy)]
 enum Visit {
     Enter(usize),
     Leave(usize, usize, usize),
 }
 
 /// The types that were read, by place.
+#[derive(Drop)]
 pub struct Reader {
     done: BTreeMap<usize, Shared<Ty>>,
 }

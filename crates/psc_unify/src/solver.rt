@@ -38,6 +38,7 @@ pub struct Solver {
 }
 
 /// How solving an equation ended.
+#[derive(Clone, Copy)]
 enum Ended {
     Solved,
     Clashed { scopes_only: bool },

@@ -43,6 +43,7 @@ fn start(alloc: Global) -> Result<Solver, NoMemory> {
 }
 
 /// The words of a type that were not read yet.
+#[derive(Drop)]
 struct Words<'a> {
     rest: &'a [&'a str],
 }

@@ -63,6 +63,7 @@ impl Bounds {
 }
 
 /// What a walk with one scope has.
+#[derive(Drop)]
 struct Walk {
     scope: u64,
     seen: BTreeSet<usize>,
