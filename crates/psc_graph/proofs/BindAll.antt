@@ -22,14 +22,13 @@ module _ (nodes : List Node) (kinds : List (Option ℕ)) (u s t : ℕ) (n : Node
   within = slice_get_within nodes t n target
 
   pub solution_before :
-    slice_get kinds t ≡ Some (Some s) → ((m : ℕ → Tree) → Solves m nodes → HasHoles m nodes → Lacks u (m t)) →
-    IsReady nodes kinds → (v : ℕ → Tree) → IsSolution v (slice_set nodes u (Link t)) → IsSolution v nodes × (v u ≡ v t)
+      slice_get kinds t ≡ Some (Some s) → ((m : ℕ → Tree) → Solves m nodes → HasHoles m nodes → Lacks u (m t)) →
+      IsReady nodes kinds → (v : ℕ → Tree) → IsSolution v (slice_set nodes u (Link t)) → IsSolution v nodes × (v u ≡ v t)
   solution_before kind apart ready v sol =
       let g = ready.most in
       let m = ready.value in
       let lacks = apart m g.solves g.holes in
-      let two = bind_sound v nodes u s t free sol.solves in
-      (
+      let two = bind_sound v nodes u s t free sol.solves in (
         record {
           solves = two.0;
           suits = record {
@@ -45,8 +44,8 @@ module _ (nodes : List Node) (kinds : List (Option ℕ)) (u s t : ℕ) (n : Node
       )
 
   pub ready_after :
-    slice_get kinds t ≡ Some (Some s) → ((m : ℕ → Tree) → Solves m nodes → HasHoles m nodes → Lacks u (m t)) →
-    IsReady nodes kinds → IsReady (slice_set nodes u (Link t)) kinds
+      slice_get kinds t ≡ Some (Some s) → ((m : ℕ → Tree) → Solves m nodes → HasHoles m nodes → Lacks u (m t)) →
+      IsReady nodes kinds → IsReady (slice_set nodes u (Link t)) kinds
   ready_after kind apart ready =
       let g = ready.most in
       let m = ready.value in

@@ -84,7 +84,10 @@ module _ (root : ℕ) (nodes : List Node) (at : ℕ) (seen next : ℕ → Bool) 
 
   old_after : (k : ℕ) → IsExplored root nodes seen all k → IsExplored root nodes next more k
   old_after k x = record {
-    node = x.node; is = x.is; other = x.other; ends = x.ends;
+    node = x.node;
+    is = x.is;
+    other = x.other;
+    ends = x.ends;
     parts = λ p h. reaches_after p (x.parts p h);
   }
 

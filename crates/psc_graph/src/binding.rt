@@ -3,8 +3,8 @@ ghost use Rattle.std.specs.Prelude.{◌≡◌, ℕ, true, false, OnOk, slice_get
 ghost use Rattle.psc_graph.specs.Tree.{Tree};
 ghost use Rattle.psc_graph.specs.General.{IsSolution, IsReady};
 
-use crate::occurs::is_inside;
 use crate::node::{Node, Stop};
+use crate::occurs::is_inside;
 use std::alloc::Global;
 
 /// Whether the node at a place has the kind. A node under a binder has none.

@@ -46,11 +46,7 @@ fn kind_of_row(head: Option<u64>, rest: Option<u64>) -> Option<u64>
         None => None,
         Some(_) => match rest {
             None => None,
-            Some(kind) => if kind == 0 {
-                Some(0)
-            } else {
-                None
-            },
+            Some(kind) => if kind == 0 { Some(0) } else { None },
         },
     }
 }
@@ -63,7 +59,11 @@ pub fn kind_of_node(kinds: &[Option<u64>], node: Node) -> Option<u64>
         Node::Free(kind) => Some(kind),
         Node::Link(to) => kind_at(kinds, to),
         Node::Atom(leaf) => kind_of_leaf(leaf),
-        Node::Join(former, left, right) => kind_of_join(former, kind_at(kinds, left), kind_at(kinds, right)),
+        Node::Join(former, left, right) => kind_of_join(
+            former,
+            kind_at(kinds, left),
+            kind_at(kinds, right),
+        ),
         Node::Field(_, head, rest) => kind_of_row(kind_at(kinds, head), kind_at(kinds, rest)),
     }
 }

@@ -8,15 +8,15 @@
 mod binding;
 mod growing;
 mod links;
-mod occurs;
 mod merging;
 mod node;
+mod occurs;
 mod work;
 
 pub use binding::bind;
 pub use growing::{kind_of_node, push_node};
 pub use links::{find, node_at};
 pub use merging::merge;
-pub use occurs::{is_seen, note, see, take_note};
 pub use node::{Former, Leaf, Node, Stop, Task};
+pub use occurs::{is_seen, note, see, take_note};
 pub use work::{add, is_same_former, is_same_leaf, take_last};

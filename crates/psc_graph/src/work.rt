@@ -34,4 +34,3 @@ pub fn is_same_former(x: Former, y: Former) -> bool
 {
     x == y
 }
-

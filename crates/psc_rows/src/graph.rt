@@ -29,20 +29,8 @@ fn is_inside_graph(nodes: &[Node], node: Node) -> bool
     match node {
         Node::Free(_) | Node::Atom(_) => true,
         Node::Link(to) => to < length,
-        Node::Join(_, left, right) => {
-            if left < length {
-                right < length
-            } else {
-                false
-            }
-        }
-        Node::Field(_, head, rest) => {
-            if head < length {
-                rest < length
-            } else {
-                false
-            }
-        }
+        Node::Join(_, left, right) => { if left < length { right < length } else { false } }
+        Node::Field(_, head, rest) => { if head < length { rest < length } else { false } }
     }
 }
 

@@ -3,7 +3,10 @@ ghost use Rattle.std.specs.Prelude.{◌≡◌, ℕ, slice_get, Some};
 
 use crate::graph::Graph;
 use crate::rows::relate_rows;
-use psc_graph::{Former, Leaf, Node, Stop, Task, add, bind, find, is_same_former, is_same_leaf, merge, node_at, take_last};
+use psc_graph::{
+    Former, Leaf, Node, Stop, Task, add, bind, find, is_same_former, is_same_leaf, merge, node_at,
+    take_last,
+};
 use std::alloc::Global;
 
 /// Two joins are equal where their formers are one and their parts are equal.
@@ -34,7 +37,13 @@ fn merge_at(graph: &mut Graph, a: usize, b: usize) -> Result<(), Stop> {
 }
 
 /// Two types without parts are equal where they are one.
-fn relate_leaves(graph: &mut Graph, left: usize, right: usize, x: Leaf, y: Leaf) -> Result<(), Stop> {
+fn relate_leaves(
+    graph: &mut Graph,
+    left: usize,
+    right: usize,
+    x: Leaf,
+    y: Leaf,
+) -> Result<(), Stop> {
     if is_same_leaf(x, y) {
         merge_at(graph, left, right)
     } else {
@@ -56,7 +65,15 @@ fn bind_at(
     requires ends { (j : ℕ) → node ≡ Node.Link j → ⊥ }
 {
     graph.remember(unknown, Node::Free(kind))?;
-    bind(alloc, graph.nodes.as_mut_slice(), graph.kinds.as_slice(), unknown, kind, to, node)
+    bind(
+        alloc,
+        graph.nodes.as_mut_slice(),
+        graph.kinds.as_slice(),
+        unknown,
+        kind,
+        to,
+        node,
+    )
 }
 
 /// Solves one equation between two different ends, neither of which is free, or puts equations in

@@ -4,7 +4,7 @@ use crate::kinds::{ROW, STAR};
 use crate::names::Constant;
 use crate::state::State;
 use psc_graph::{Former, Leaf, Node};
-use psc_text::{Ident, NoMemory};
+use psc_text::{Ident, Label, NoMemory, Qualified, Text};
 use psc_type::{Constraint, Kind, Ty};
 
 /// How many `forall`s further out a variable is bound, where it is.
@@ -24,6 +24,49 @@ fn add_variable(state: &mut State, binders: &[Ident], name: &Ident) -> Result<us
     }
 }
 
+/// Adds an application, whose kind is what the function's kind gives.
+fn push_application(state: &mut State, left: usize, right: usize) -> Result<usize, NoMemory> {
+    let kind = state.graph.kinds.get(left).copied().unwrap_or(None);
+    let result = state.kinds.result(kind);
+    state.push(Node::Join(Former::Apply(result), left, right))
+}
+
+fn push_forall(state: &mut State, kind: &Kind, body: usize) -> Result<usize, NoMemory> {
+    let number = state.kinds.number(kind)?;
+    let none = state.push(Node::Atom(Leaf::NoArgument))?;
+    state.push(Node::Join(Former::Forall(number), none, body))
+}
+
+fn push_given(
+    state: &mut State,
+    class: &Qualified,
+    arguments: usize,
+    body: usize,
+) -> Result<usize, NoMemory> {
+    let number = state.classes.number(class)?;
+    state.push(Node::Join(Former::Given(number), arguments, body))
+}
+
+fn push_symbol(state: &mut State, text: &Text) -> Result<usize, NoMemory> {
+    let kind = state.kinds.number(&Kind::Sym)?;
+    state.push_constant(Constant::Symbol(text.clone()?), kind)
+}
+
+fn push_any(state: &mut State, kind: &Kind) -> Result<usize, NoMemory> {
+    let number = state.kinds.number(kind)?;
+    state.push_constant(Constant::Any(number), number)
+}
+
+fn push_field(
+    state: &mut State,
+    label: &Label,
+    head: usize,
+    rest: usize,
+) -> Result<usize, NoMemory> {
+    let number = state.labels.number(label)?;
+    state.push(Node::Field(number, head, rest))
+}
+
 /// Adds the nodes of a type under binders, the innermost last, and gives its place.
 #[cycle(add)]
 pub fn add_type(state: &mut State, binders: &mut Vec<Ident>, ty: &Ty) -> Result<usize, NoMemory> {
@@ -31,68 +74,41 @@ pub fn add_type(state: &mut State, binders: &mut Vec<Ident>, ty: &Ty) -> Result<
         Ty::Var(name) => add_variable(state, binders.as_slice(), name),
         Ty::Unknown(number) => state.place_of(*number),
         Ty::Con(name) => state.push_constant(Constant::Con(name.clone()?), STAR),
-        Ty::App(function, argument) => add_application(state, binders, function.get(), argument.get()),
-        Ty::Forall(name, kind, body) => add_forall(state, binders, name, kind, body.get()),
-        Ty::Given(constraint, body) => add_given(state, binders, constraint, body.get()),
+        Ty::App(function, argument) => {
+            let left = add_type(state, binders, function.get())?;
+            let right = add_type(state, binders, argument.get())?;
+            push_application(state, left, right)
+        }
+        Ty::Forall(name, kind, body) => {
+            binders.push(name.clone()?)?;
+            let place = add_type(state, binders, body.get())?;
+            binders.pop();
+            push_forall(state, kind, place)
+        }
+        Ty::Given(constraint, body) => {
+            let place = add_type(state, binders, body.get())?;
+            let arguments = add_constraint(state, binders, constraint)?;
+            push_given(state, &constraint.class, arguments, place)
+        }
         Ty::RowCons(label, head, rest) => {
-            let number = state.labels.number(label)?;
             let left = add_type(state, binders, head.get())?;
             let right = add_type(state, binders, rest.get())?;
-            state.push(Node::Field(number, left, right))
+            push_field(state, label, left, right)
         }
         Ty::RowNil => state.push_constant(Constant::EmptyRow, ROW),
-        Ty::Symbol(text) => {
-            let kind = state.kinds.number(&Kind::Sym)?;
-            state.push_constant(Constant::Symbol(text.clone()?), kind)
-        }
-        Ty::Any(kind) => {
-            let number = state.kinds.number(kind)?;
-            state.push_constant(Constant::Any(number), number)
-        }
+        Ty::Symbol(text) => push_symbol(state, text),
+        Ty::Any(kind) => push_any(state, kind),
     }
 }
 
+/// Adds the arguments of a constraint.
 #[cycle(add)]
-fn add_application(
-    state: &mut State,
-    binders: &mut Vec<Ident>,
-    function: &Ty,
-    argument: &Ty,
-) -> Result<usize, NoMemory> {
-    let left = add_type(state, binders, function)?;
-    let right = add_type(state, binders, argument)?;
-    let kind = state.graph.kinds.get(left).copied().unwrap_or(None);
-    let result = state.kinds.result(kind);
-    state.push(Node::Join(Former::Apply(result), left, right))
-}
-
-#[cycle(add)]
-fn add_forall(
-    state: &mut State,
-    binders: &mut Vec<Ident>,
-    name: &Ident,
-    kind: &Kind,
-    body: &Ty,
-) -> Result<usize, NoMemory> {
-    let number = state.kinds.number(kind)?;
-    binders.push(name.clone()?)?;
-    let right = add_type(state, binders, body)?;
-    binders.pop();
-    let left = state.push(Node::Atom(Leaf::NoArgument))?;
-    state.push(Node::Join(Former::Forall(number), left, right))
-}
-
-#[cycle(add)]
-fn add_given(
+fn add_constraint(
     state: &mut State,
     binders: &mut Vec<Ident>,
     constraint: &Constraint,
-    body: &Ty,
 ) -> Result<usize, NoMemory> {
-    let class = state.classes.number(&constraint.class)?;
-    let right = add_type(state, binders, body)?;
-    let left = add_arguments(state, binders, constraint.args.as_slice())?;
-    state.push(Node::Join(Former::Given(class), left, right))
+    add_arguments(state, binders, constraint.args.as_slice())
 }
 
 #[cycle(add)]

@@ -64,13 +64,23 @@ impl Reader {
         }
     }
 
-    fn enter(&mut self, alloc: Global, state: &State, work: &mut Vec<Visit>, at: usize) -> Result<(), NoMemory> {
+    fn enter(
+        &mut self,
+        alloc: Global,
+        state: &State,
+        work: &mut Vec<Visit>,
+        at: usize,
+    ) -> Result<(), NoMemory> {
         let (end, node) = find(state.graph.nodes.as_slice(), at).map_err(no_memory)?;
         if self.done.contains_key(&end) {
             return Ok(());
         }
         match node {
-            Node::Free(_) | Node::Link(_) => self.keep(alloc, end, Ty::Unknown(state.number_at(end))),
+            Node::Free(_) | Node::Link(_) => self.keep(
+                alloc,
+                end,
+                Ty::Unknown(state.number_at(end)),
+            ),
             Node::Atom(leaf) => {
                 let ty = read_leaf(state, leaf)?;
                 self.keep(alloc, end, ty)
@@ -84,7 +94,14 @@ impl Reader {
         }
     }
 
-    fn leave(&mut self, alloc: Global, state: &State, at: usize, left: usize, right: usize) -> Result<(), NoMemory> {
+    fn leave(
+        &mut self,
+        alloc: Global,
+        state: &State,
+        at: usize,
+        left: usize,
+        right: usize,
+    ) -> Result<(), NoMemory> {
         let one = self.part(alloc, state, left)?;
         let two = self.part(alloc, state, right)?;
         match state.graph.nodes.get(at).copied() {
@@ -107,7 +124,9 @@ impl Reader {
             match work.pop() {
                 None => return Ok(self.part(alloc, state, at)?.get().clone()?),
                 Some(Visit::Enter(place)) => self.enter(alloc, state, &mut work, place)?,
-                Some(Visit::Leave(place, left, right)) => self.leave(alloc, state, place, left, right)?,
+                Some(Visit::Leave(place, left, right)) => self.leave(
+                    alloc, state, place, left, right,
+                )?,
             }
         }
         Err(NoMemory)
@@ -145,13 +164,23 @@ impl Reader {
     }
 
     #[cycle(apply)]
-    fn apply_shared(&mut self, alloc: Global, state: &State, ty: &Ty) -> Result<Shared<Ty>, NoMemory> {
+    fn apply_shared(
+        &mut self,
+        alloc: Global,
+        state: &State,
+        ty: &Ty,
+    ) -> Result<Shared<Ty>, NoMemory> {
         let value = self.apply(alloc, state, ty)?;
         Ok(Shared::new(alloc, value)?)
     }
 
     #[cycle(apply)]
-    fn apply_constraint(&mut self, alloc: Global, state: &State, constraint: &Constraint) -> Result<Constraint, NoMemory> {
+    fn apply_constraint(
+        &mut self,
+        alloc: Global,
+        state: &State,
+        constraint: &Constraint,
+    ) -> Result<Constraint, NoMemory> {
         let mut args = Vec::new(alloc);
         for argument in constraint.args.as_slice() {
             args.push(self.apply(alloc, state, argument)?)?;

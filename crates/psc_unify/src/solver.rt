@@ -56,9 +56,17 @@ fn copy_clash(clash: &Clash) -> Result<Clash, NoMemory> {
 fn narrow_bound(alloc: Global, state: &mut State) -> Result<(), Stop> {
     state.bounds.cover(state.graph.nodes.len())?;
     for index in 0..state.graph.writes.len() {
-        let write = state.graph.writes[index];
+        let Some(write) = state.graph.writes.get(index).copied() else {
+            return Ok(());
+        };
         if let Node::Free(_) = write.node {
-            narrow(alloc, state.graph.nodes.as_slice(), &mut state.scopes, &mut state.bounds, write.place)?;
+            narrow(
+                alloc,
+                state.graph.nodes.as_slice(),
+                &mut state.scopes,
+                &mut state.bounds,
+                write.place,
+            )?;
         }
     }
     Ok(())
@@ -93,7 +101,13 @@ fn add_equation(alloc: Global, state: &mut State, a: &Ty, b: &Ty) -> Result<Ende
     Ok(ended)
 }
 
-fn clash_of(alloc: Global, state: &State, a: &Ty, b: &Ty, scopes_only: bool) -> Result<Clash, NoMemory> {
+fn clash_of(
+    alloc: Global,
+    state: &State,
+    a: &Ty,
+    b: &Ty,
+    scopes_only: bool,
+) -> Result<Clash, NoMemory> {
     let mut reader = Reader::new(alloc);
     let left = reader.apply(alloc, state, a)?;
     let right = reader.apply(alloc, state, b)?;
@@ -111,7 +125,9 @@ impl Solver {
         let mut state = State::new(alloc)?;
         for row in kinds {
             let kind = state.kinds.number(&row.kind)?;
-            state.constants.number(Constant::Con(row.name.clone()?), kind)?;
+            state
+                .constants
+                .number(Constant::Con(row.name.clone()?), kind)?;
         }
         Ok(Solver {
             state,
@@ -147,7 +163,9 @@ impl Solver {
         }
         self.is_spent = true;
         let kind = self.state.kinds.number(&kind)?;
-        let bound = self.state.scope_number(alloc, scope.rigid.as_slice(), self.last_scope)?;
+        let bound = self
+            .state
+            .scope_number(alloc, scope.rigid.as_slice(), self.last_scope)?;
         self.last_scope = bound;
         let number = self.state.push_unknown(kind, bound)?;
         self.is_spent = false;

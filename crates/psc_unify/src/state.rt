@@ -93,7 +93,9 @@ impl State {
         self.unknowns.push(place)?;
         self.numbers.insert(place, number)?;
         self.bounds.keep();
-        self.bounds.cover(self.graph.nodes.len()).map_err(no_memory)?;
+        self.bounds
+            .cover(self.graph.nodes.len())
+            .map_err(no_memory)?;
         self.bounds.put(place, scope).map_err(no_memory)?;
         Ok(number)
     }
@@ -107,7 +109,12 @@ impl State {
     }
 
     /// The number of a scope: the one that was used last where it has the same rigid variables.
-    pub fn scope_number(&mut self, alloc: Global, rigid: &[Ident], last: u64) -> Result<u64, NoMemory> {
+    pub fn scope_number(
+        &mut self,
+        alloc: Global,
+        rigid: &[Ident],
+        last: u64,
+    ) -> Result<u64, NoMemory> {
         let mut list = Vec::new(alloc);
         for name in rigid {
             let (number, _) = self.rigids.number(name, STAR)?;

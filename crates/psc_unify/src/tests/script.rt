@@ -191,7 +191,12 @@ fn whole_type(alloc: Global, words: &[&str]) -> Result<Ty, Fail> {
 }
 
 /// Runs one step, and writes what it answers.
-fn run_step(alloc: Global, solver: &mut Solver, words: &[&str], out: &mut String) -> Result<(), Fail> {
+fn run_step(
+    alloc: Global,
+    solver: &mut Solver,
+    words: &[&str],
+    out: &mut String,
+) -> Result<(), Fail> {
     match words {
         ["rigid", variable] => {
             let made = solver.rigid(alloc, &ident(alloc, *variable)?, Kind::Star)?;
@@ -206,7 +211,11 @@ fn run_step(alloc: Global, solver: &mut Solver, words: &[&str], out: &mut String
             Ok(())
         }
         ["fun", names @ ..] => {
-            solver.fresh(alloc, arrow(alloc, Kind::Star, Kind::Star)?, &scope(alloc, names)?)?;
+            solver.fresh(
+                alloc,
+                arrow(alloc, Kind::Star, Kind::Star)?,
+                &scope(alloc, names)?,
+            )?;
             Ok(())
         }
         ["show", number] => {
@@ -217,7 +226,12 @@ fn run_step(alloc: Global, solver: &mut Solver, words: &[&str], out: &mut String
     }
 }
 
-fn run_equation(alloc: Global, solver: &mut Solver, words: &[&str], out: &mut String) -> Result<(), Fail> {
+fn run_equation(
+    alloc: Global,
+    solver: &mut Solver,
+    words: &[&str],
+    out: &mut String,
+) -> Result<(), Fail> {
     let Some(middle) = words.iter().position(|word: &&str| *word == "=") else {
         return Err(Fail::from("no step"));
     };

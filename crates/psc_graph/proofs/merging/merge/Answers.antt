@@ -35,4 +35,3 @@ returns-clause-general c =
     (c.is_alike.ensures.link yes)
     (λ v f m e. rw e (c.is_alike.ensures.alike yes v (v c.args.b) f m))
     (λ v s. c.is_alike.ensures.same yes v _ _ (follows v _ s) (s.each _ _ at_a) (s.each _ _ at_b))
-
