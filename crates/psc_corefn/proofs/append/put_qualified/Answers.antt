@@ -1,0 +1,7 @@
+use Rattle.psc_corefn.specs.Json as json_text
+use Rattle.psc_corefn.proofs.Appended.{more, last}
+use Rattle.psc_corefn.proofs.append.put_qualified.Goals as goal
+
+pub returns : goal.returns
+unfolding json_text.qualified
+returns c = last c.put-2.result c.args.out.now c.put_member_of_module.new.out c.put-2.new.out _ _ (more c.args.out.now c.put_text.new.out c.put_member_of_module.new.out _ _ (more c.args.out.now c.put.new.out c.put_text.new.out _ _ c.in_ok-put.ensures c.in_ok-put_text.ensures) c.in_ok-put_member_of_module.ensures) c.put-2.ensures

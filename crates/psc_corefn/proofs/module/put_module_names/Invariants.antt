@@ -1,0 +1,8 @@
+use Rattle.std.proofs.Common.{◌≡◌, ◌++◌, false, map, drop}
+use Rattle.std.specs.String.{string_bytes}
+use Rattle.psc_corefn.specs.Json.{rest_of_list}
+use Rattle.psc_corefn.specs.Json.{module_name}
+use Rattle.psc_corefn.proofs.module.put_module_names.Given as goal
+
+abbrev pub invariant-loop-name : goal.invariant-loop-name
+invariant-loop-name l = string_bytes l.out ++ rest_of_list l.later (map module_name (drop l.name-index l.names)) ≡ string_bytes l.initial.out ++ rest_of_list false (map module_name l.names)
