@@ -17,7 +17,8 @@ is_current() {
 
 # `rt run` leaves the program behind. Without words it ends with a refusal, which shows that it was built.
 build() {
-    local log answer start=$SECONDS
+    local log answer began
+    began=$(date +%s)
     log=$(mktemp)
     echo "purs: proving and building the program; the first time this takes some minutes" >&2
     answer=$(cd "$crate" && rt run 2>"$log" </dev/null) || true
@@ -28,8 +29,8 @@ build() {
         exit 2
     fi
     rm -f "$log"
-    touch "$program"
-    echo "purs: proved and built in $((SECONDS - start)) seconds" >&2
+    touch -d "@$began" "$program"
+    echo "purs: proved and built in $(($(date +%s) - began)) seconds" >&2
 }
 
 is_current || build
