@@ -1,11 +1,11 @@
 -- What an ordered map of names holds after an insertion.
-use Rattle.std.proofs.Common.{◌≡◌, ℕ, List, refl, ap, sym, ◌∙◌, nat_eq, cond}
-use Rattle.std.specs.Prelude.{Option, Some}
-use Rattle.std.specs.Ordering.{nat_cmp, is_eq}
-use Rattle.std.specs.Cmp.Lexicographic.{slice_cmp, pointwise}
+use Rattle.std.proofs.Common.{◌≡◌, ℕ, List, ap, ◌∙◌, cond}
+use Rattle.std.specs.Prelude.{Some}
+use Rattle.std.specs.Ordering.{nat_cmp}
+use Rattle.std.specs.Cmp.Lexicographic.{slice_cmp}
 use Rattle.std.specs.BTreeMap.{BTreeMap, get, Updates}
 use Rattle.std.proofs.lemmas.Map.Text.{is_eq-slice_cmp}
-use Rattle.psc_outside.specs.Contents.{Contents, replaced}
+use Rattle.psc_outside.specs.Contents.{replaced}
 
 inserted_at : (m n : BTreeMap (List ℕ) (List ℕ)) (name bytes : List ℕ) → Updates (slice_cmp nat_cmp) m n name (Some bytes) → (λ q. get (slice_cmp nat_cmp) n q) ≡ replaced (λ q. get (slice_cmp nat_cmp) m q) name bytes
 unfolding replaced

@@ -1,8 +1,6 @@
 -- What is held after a replacement: the bytes under the name, and under each other name what was held there.
-use Rattle.std.proofs.Common.{◌≡◌, ℕ, List, refl, ap, nat_eq, true, false, true≢false, cond, sym}
-use Rattle.std.specs.Prelude.{Option, Some, None, Bool, IsTrue}
-use Rattle.std.specs.Bool.{Decides}
-use Rattle.std.specs.Cmp.Lexicographic.{pointwise}
+use Rattle.std.proofs.Common.{◌≡◌, ℕ, List, refl, true, false, true≢false, cond, sym}
+use Rattle.std.specs.Prelude.{Option, Some, Bool, IsTrue}
 use Rattle.psc_text.proofs.Same.{text_Decides}
 use Rattle.psc_outside.specs.Contents.{Contents, replaced}
 

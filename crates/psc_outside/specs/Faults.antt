@@ -1,5 +1,5 @@
 -- Counts of faults: what a call may do to one.
-use Rattle.std.specs.Prelude.{◌≡◌, ℕ, ◌-◌, ◌^◌, ◌<◌, List, ◌⊎◌}
+use Rattle.std.specs.Prelude.{◌≡◌, ℕ, ◌-◌, ◌^◌, ◌<◌, ◌⊎◌}
 use Rattle.psc_outside.specs.declared.put.Put.{Put}
 use Rattle.psc_outside.specs.declared.put.Put.TheVariants as put
 use Rattle.psc_outside.specs.declared.read_file.ReadFile.{ReadFile}

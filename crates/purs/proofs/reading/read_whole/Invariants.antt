@@ -1,4 +1,4 @@
-use Rattle.std.proofs.Common.{◌≤◌, ◌^◌, length, vec_len}
+use Rattle.std.proofs.Common.{◌≤◌, ◌^◌, vec_len}
 use Rattle.purs.proofs.reading.read_whole.Given as goal
 
 -- no more than 1 GiB was read
