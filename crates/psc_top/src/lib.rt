@@ -11,3 +11,6 @@ mod text;
 mod words;
 
 pub use compile::compile_alone;
+
+#[cfg(test)]
+mod tests;
