@@ -3,3 +3,4 @@ pub mod Letters
 pub mod ModuleWords
 pub mod Numbers
 pub mod Readings
+pub mod Ends

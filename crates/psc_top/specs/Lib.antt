@@ -6,3 +6,4 @@ pub mod Core
 pub mod Text
 pub mod Run
 pub mod Calls
+pub mod Causes

@@ -3,11 +3,13 @@
 //! The steps stand in their order: the words, the reading of the file, its lines, the shelf, the sink.
 //! A fault of the shelf or the sink ends the run, and nothing is put to the sink after it.
 
-ghost use Rattle.std.specs.Prelude.{◌≡◌, ◌≢◌, ◌≤◌, ◌^◌, length, IfOk};
+ghost use Rattle.std.specs.Prelude.{◌≡◌, ◌≢◌, ◌⊎◌, ℕ, ◌<◌, ◌≤◌, ◌^◌, List, length, Some, None, IsTrue, IfOk};
+ghost use Rattle.psc_outside.specs.Faults.{Rose};
+ghost use Rattle.psc_top.specs.Causes.{IsUnlessFault, IsUnreadable, IsFileOf, IsRefused, IsSource};
 ghost use Rattle.psc_outside.specs.declared.read_file.ReadFile.{ReadFile};
 ghost use Rattle.psc_top.specs.Run as run;
 ghost use Rattle.psc_top.specs.Reading as reading;
-ghost use Rattle.psc_top.specs.Calls.{Says, Makes, ReadsFile, Runs};
+ghost use Rattle.psc_top.specs.Calls.{Says, Makes, ReadsFile, HasRun};
 
 use crate::core_module::core_module_of;
 use crate::report::{file_word, not_found, read_fault, refusal, stored_name};
@@ -108,7 +110,7 @@ fn run<F: Files, S: Shelf, K: Sink>(
     shelf: &mut S,
     out: &mut K,
 ) -> Result<Status, NoMemory>
-    ensures ran { IfOk result (λ answer. Runs F.tells F.held F.faults S.tells S.held S.faults K.tells K.taken K.faults
+    ensures ran { IfOk result (λ answer. HasRun F.tells F.held F.faults S.tells S.held S.faults K.tells K.taken K.faults
         files.old files.new shelf.old shelf.new out.old out.new words.now answer) }
     ensures keeps_files { (F.held files.new ≡ F.held files.old) × (F.folder files.new ≡ F.folder files.old) }
 {
@@ -128,8 +130,31 @@ pub fn compile_alone<F: Files, S: Shelf, K: Sink>(
     shelf: &mut S,
     out: &mut K,
 ) -> Status
-    ensures ran { result ≢ Status.NoMemory → Runs F.tells F.held F.faults S.tells S.held S.faults K.tells K.taken K.faults
+    ensures ran { result ≢ Status.NoMemory → HasRun F.tells F.held F.faults S.tells S.held S.faults K.tells K.taken K.faults
         files.old files.new shelf.old shelf.new out.old out.new words.now result }
+
+    // 2 exactly where the words are no such command.
+    ensures bad_words { result ≡ Status.BadWords → run.file_word words.now ≡ None }
+    ensures no_command { run.file_word words.now ≡ None → IsUnlessFault Status.BadWords result }
+
+    // 3 exactly where the file is absent, or its reading failed.
+    ensures unreadable { result ≡ Status.Unreadable → IsUnreadable F.tells F.held F.faults files.old files.new words.now }
+    ensures absent { (path : List ℕ) → run.file_word words.now ≡ Some path → IsTrue F.tells → F.held files.old path ≡ None
+        → IsUnlessFault Status.Unreadable result }
+    ensures read_failed { (path : List ℕ) → run.file_word words.now ≡ Some path → F.faults files.old < F.faults files.new
+        → IsUnlessFault Status.Unreadable result }
+
+    // 1 exactly where a line of the file is refused, and 0 where none is.
+    ensures errors { result ≡ Status.Errors → IsFileOf F.tells F.held F.faults files.old files.new words.now IsRefused }
+    ensures accepted { result ≡ Status.Accepted → IsFileOf F.tells F.held F.faults files.old files.new words.now IsSource }
+    ensures read { (path bytes : List ℕ) → run.file_word words.now ≡ Some path → IsTrue F.tells → F.held files.old path ≡ Some bytes
+        → ¬ (Rose (F.faults files.old) (F.faults files.new)) → IsUnlessFault (run.of_source path (reading.source_of bytes)).status result }
+
+    // 4 exactly where the shelf's or the sink's count rose.
+    ensures not_stored { result ≡ Status.NotStored → Rose (S.faults shelf.old) (S.faults shelf.new) ⊎ Rose (K.faults out.old) (K.faults out.new) }
+    ensures no_fault { result ≢ Status.NotStored → result ≢ Status.NoMemory
+        → (S.faults shelf.new ≡ S.faults shelf.old) × (K.faults out.new ≡ K.faults out.old) }
+
     ensures keeps_files { (F.held files.new ≡ F.held files.old) × (F.folder files.new ≡ F.folder files.old) }
 {
     match run(alloc, words, files, shelf, out) {
