@@ -4,3 +4,4 @@ pub mod ModuleWords
 pub mod Numbers
 pub mod Readings
 pub mod Ends
+pub mod Spellings

@@ -10,7 +10,7 @@ use Rattle.psc_top.proofs.Letters.{first, second}
 use Rattle.psc_top.specs.Words.{are_digits, is_value_word}
 use Rattle.psc_top.specs.Line.{number_of, greatest, bound}
 
-own : IsNumeralModel (λ ds. list_all is_ascii_digit ds ≡ true) (digits_value 10)
+pub own : IsNumeralModel (λ ds. list_all is_ascii_digit ds ≡ true) (digits_value 10)
 own = numerals_by_value _ (search rules)
 
 fits : (v : ℕ) → v < 2 ^ 31 → nat_le v greatest ≡ true

@@ -7,3 +7,4 @@ pub mod Text
 pub mod Run
 pub mod Calls
 pub mod Causes
+pub mod Spelling

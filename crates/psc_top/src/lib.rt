@@ -11,6 +11,7 @@ mod text;
 mod words;
 
 pub use compile::compile_alone;
+pub use source::accepted_is_spelled;
 
 #[cfg(test)]
 mod tests;

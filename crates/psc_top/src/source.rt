@@ -9,6 +9,8 @@ ghost use Rattle.std.specs.Cmp.Lexicographic.{slice_cmp};
 ghost use Rattle.std.specs.BTreeSet.{contains};
 ghost use Rattle.psc_top.specs.Words.{is_module_word};
 ghost use Rattle.psc_top.specs.Reading as spec;
+ghost use Rattle.psc_top.specs.Spelling.{spelling};
+ghost use Rattle.psc_top.specs.declared.source.Source.{Source};
 
 use crate::line::{Binding, binding_on, header_of, text_of};
 use crate::words::cut;
@@ -126,4 +128,10 @@ pub fn source_of(alloc: Global, bytes: &[u8]) -> Result<Result<Source, RefusedLi
         })),
         Err(refused) => Ok(Err(refused)),
     }
+}
+
+/// A file that is accepted is spelled as its source is, and no other way.
+pub fn accepted_is_spelled()
+    ensures { (bytes : List ℕ) (source : Source) → spec.source_of bytes ≡ Ok source → bytes ≡ spelling source }
+{
 }
