@@ -5,3 +5,4 @@ pub mod Numbers
 pub mod Readings
 pub mod Ends
 pub mod Spellings
+pub mod Rows

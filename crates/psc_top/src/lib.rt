@@ -11,7 +11,7 @@ mod text;
 mod words;
 
 pub use compile::compile_alone;
-pub use source::accepted_is_spelled;
+pub use source::{accepted_is_spelled, spelled_is_accepted};
 
 #[cfg(test)]
 mod tests;

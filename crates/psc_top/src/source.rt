@@ -2,14 +2,14 @@
 //!
 //! Every line ends with a line feed, the last one too. No name is bound twice.
 
-ghost use Rattle.std.specs.Prelude.{◌≡◌, ◌≤◌, ◌^◌, ◌+◌, ◌||◌, ◌↔◌, ℕ, List, length, not, IsTrue, IfOk, OnOk, MatchBool, [], Some, None, bytes_eq, chars};
+ghost use Rattle.std.specs.Prelude.{◌≡◌, ◌≤◌, ◌^◌, ◌+◌, ◌||◌, ◌↔◌, ℕ, List, length, not, IsTrue, IfOk, OnOk, MatchBool, [], Some, None, bytes_eq, chars, map, pos, Ok};
 ghost use Rattle.std.specs.Bool.{OnTrue};
 ghost use Rattle.std.specs.Ordering.{nat_cmp};
 ghost use Rattle.std.specs.Cmp.Lexicographic.{slice_cmp};
 ghost use Rattle.std.specs.BTreeSet.{contains};
 ghost use Rattle.psc_top.specs.Words.{is_module_word};
 ghost use Rattle.psc_top.specs.Reading as spec;
-ghost use Rattle.psc_top.specs.Spelling.{spelling};
+ghost use Rattle.psc_top.specs.Spelling.{spelling, file_of, AreRows, names_rows};
 ghost use Rattle.psc_top.specs.declared.source.Source.{Source};
 
 use crate::line::{Binding, binding_on, header_of, text_of};
@@ -133,5 +133,13 @@ pub fn source_of(alloc: Global, bytes: &[u8]) -> Result<Result<Source, RefusedLi
 /// A file that is accepted is spelled as its source is, and no other way.
 pub fn accepted_is_spelled()
     ensures { (bytes : List ℕ) (source : Source) → spec.source_of bytes ≡ Ok source → bytes ≡ spelling source }
+{
+}
+
+/// A file that is spelled by the rules is accepted, and its source has the same names and numbers.
+pub fn spelled_is_accepted()
+    ensures { (name : List ℕ) (rows : List (List ℕ × ℕ)) → IsTrue (is_module_word name) → AreRows [] rows
+        → (source : Source) × (spec.source_of (file_of name rows) ≡ Ok source) × (source.name ≡ name)
+          × (names_rows source ≡ map (λ row. (row.0, pos row.1)) rows) }
 {
 }
