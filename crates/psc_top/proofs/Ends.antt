@@ -36,9 +36,8 @@ put_ends a a' b b' good answer same put.Done counts e = inl (e, same, counts)
 put_ends a a' b b' good answer same put.Failed counts e = inr e
 
 module _ (F S K : Type 0) (files_tell : Bool) (contents : F → Contents) (files_faults : F → ℕ)
-  (shelf_tells : Bool) (held : S → Contents) (shelf_faults : S → ℕ) (tells : Bool) (taken : K → List ℕ) (faults : K → ℕ)
-  (files files' : F) (shelf shelf' : S) (sink sink' : K) (words : List (List ℕ)) (answer : Status) where
-
+    (shelf_tells : Bool) (held : S → Contents) (shelf_faults : S → ℕ) (tells : Bool) (taken : K → List ℕ) (faults : K → ℕ)
+    (files files' : F) (shelf shelf' : S) (sink sink' : K) (words : List (List ℕ)) (answer : Status) where
   abbrev Run : Type 0
   Run = HasRun files_tell contents files_faults shelf_tells held shelf_faults tells taken faults files files' shelf shelf' sink sink' words answer
 
@@ -49,15 +48,15 @@ module _ (F S K : Type 0) (files_tell : Bool) (contents : F → Contents) (files
   says_ends text good same s = put_ends (shelf_faults shelf) (shelf_faults shelf') (faults sink) (faults sink') good answer same s.put s.counts s.status
 
   stored_ends : (stored : Option (List ℕ × List ℕ)) (text : List ℕ) (good : Status)
-    → MatchOption stored ((shelf' ≡ shelf) × Says tells taken faults sink sink' text good answer)
-        (λ entry. Stores shelf_tells held shelf_faults tells taken faults shelf shelf' sink sink' entry text good answer)
-    → EndsWith good
+      → MatchOption stored ((shelf' ≡ shelf) × Says tells taken faults sink sink' text good answer)
+      (λ entry. Stores shelf_tells held shelf_faults tells taken faults shelf shelf' sink sink' entry text good answer)
+      → EndsWith good
   stored_ends None text good m = says_ends text good (ap shelf_faults m.0) m.1
   stored_ends (Some entry) text good m =
       ⊎_elim
-        (λ (d : IsDone shelf_tells held shelf_faults shelf shelf' entry.0 entry.1 × Says tells taken faults sink sink' text good answer). says_ends text good d.0.counts d.1)
-        (λ (f : Fails shelf_tells held shelf_faults shelf shelf' sink sink' entry.0 entry.1 answer). inr f.status)
-        m
+      (λ (d : IsDone shelf_tells held shelf_faults shelf shelf' entry.0 entry.1 × Says tells taken faults sink sink' text good answer). says_ends text good d.0.counts d.1)
+      (λ (f : Fails shelf_tells held shelf_faults shelf shelf' sink sink' entry.0 entry.1 answer). inr f.status)
+      m
 
   makes_ends : (outcome : Outcome) → Makes shelf_tells held shelf_faults tells taken faults shelf shelf' sink sink' outcome answer → EndsWith outcome.status
   makes_ends outcome m = stored_ends outcome.stored outcome.text outcome.status m
@@ -65,9 +64,9 @@ module _ (F S K : Type 0) (files_tell : Bool) (contents : F → Contents) (files
   abbrev Calls : Option (List ℕ) → Type 0
   Calls word =
       MatchOption word
-        ((files' ≡ files) × Makes shelf_tells held shelf_faults tells taken faults shelf shelf' sink sink' bad_words answer)
-        (λ path. (found : ReadFile) × ReadsFile files_tell contents files_faults files files' path found
-          × Makes shelf_tells held shelf_faults tells taken faults shelf shelf' sink sink' (of_answer path found) answer)
+      ((files' ≡ files) × Makes shelf_tells held shelf_faults tells taken faults shelf shelf' sink sink' bad_words answer)
+      (λ path. (found : ReadFile) × ReadsFile files_tell contents files_faults files files' path found
+      × Makes shelf_tells held shelf_faults tells taken faults shelf shelf' sink sink' (of_answer path found) answer)
 
   good_of : (good : Status) → EndsWith good → answer ≢ status.NotStored → (answer ≡ good) × (shelf_faults shelf' ≡ shelf_faults shelf) × (faults sink' ≡ faults sink)
   good_of good h n = is_good (shelf_faults shelf) (shelf_faults shelf') (faults sink) (faults sink') good answer h n

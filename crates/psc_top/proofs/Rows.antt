@@ -91,8 +91,8 @@ binding_again : (k : ℕ) (row : List ℕ × ℕ) → is_value_word row.0 ≡ tr
 unfolding placed
 binding_again k row name low =
     let written : written_on (row_line row) ≡ Some (row.0, pos row.1) =
-        ap (λ (ws : List (List ℕ)). option_and_then bound (three ws)) (words_of_row row name low)
-        ∙ bound_is row.0 (codes "=") (decimal row.1) (pos row.1) name refl (sym (number_again row.1 low)) in
+    ap (λ (ws : List (List ℕ)). option_and_then bound (three ws)) (words_of_row row name low)
+    ∙ bound_is row.0 (codes "=") (decimal row.1) (pos row.1) name refl (sym (number_again row.1 low)) in
     ap (option_map (λ (w : List ℕ × ℤ). record { name = record { 0 = w.0 }; value = w.1; span = to_end k (row_line row) 1; value_span = to_end k (row_line row) (length w.0 + 4) })) written
 
 names_of : List Binding → List (List ℕ)
@@ -118,9 +118,9 @@ line_again k before row name low new =
 row_no_end : (row : List ℕ × ℕ) → is_value_word row.0 ≡ true → row.1 ≤ greatest → All (λ b. (b == 10) ≡ false) (row_line row)
 row_no_end row name low =
     All-from_recursion (λ b. (b == 10) ≡ false) (row_line row)
-      (both (λ b. (b == 10) ≡ false) (row.0 ++ codes " = ") (decimal row.1)
-        (both (λ b. (b == 10) ≡ false) row.0 (codes " = ") (apart_from is_ascii_alphanumeric 10 letter_no_end row.0 (value_letters row.0 name)) (refl, (refl, (refl, tt))))
-        (apart_from is_ascii_digit 10 digit_no_end (decimal row.1) (digits_of row.1 low)))
+    (both (λ b. (b == 10) ≡ false) (row.0 ++ codes " = ") (decimal row.1)
+    (both (λ b. (b == 10) ≡ false) row.0 (codes " = ") (apart_from is_ascii_alphanumeric 10 letter_no_end row.0 (value_letters row.0 name)) (refl, (refl, (refl, tt))))
+    (apart_from is_ascii_digit 10 digit_no_end (decimal row.1) (digits_of row.1 low)))
 
 lines_again : (k : ℕ) (before : List Binding) (rows : List (List ℕ × ℕ)) → AreRows (names_of before) rows
     → bindings_in k before (parts (flat_map (λ row. row_line row ++ 10 ∷ []) rows)) ≡ Ok (before ++ placed_from k rows)
@@ -155,18 +155,19 @@ header_no_end : (name : List ℕ) → is_module_word name ≡ true → All (λ b
 unfolding header_text
 header_no_end name h =
     All-from_recursion (λ b. (b == 10) ≡ false) (header_text name)
-      (both (λ b. (b == 10) ≡ false) (codes "module " ++ name) (codes " where")
-        (both (λ b. (b == 10) ≡ false) (codes "module ") name (refl, (refl, (refl, (refl, (refl, (refl, (refl, tt))))))) (apart_from is_ascii_alphanumeric 10 letter_no_end name (module_letters name h)))
-        (refl, (refl, (refl, (refl, (refl, (refl, tt)))))))
+    (both (λ b. (b == 10) ≡ false) (codes "module " ++ name) (codes " where")
+    (both (λ b. (b == 10) ≡ false) (codes "module ") name (refl, (refl, (refl, (refl, (refl, (refl, (refl, tt))))))) (apart_from is_ascii_alphanumeric 10 letter_no_end name (module_letters name h)))
+    (refl, (refl, (refl, (refl, (refl, (refl, tt)))))))
 
 pub spelled_accepted : (name : List ℕ) (rows : List (List ℕ × ℕ)) → is_module_word name ≡ true → AreRows [] rows
     → (source : Source) × (source_of (file_of name rows) ≡ Ok source) × (source.name ≡ name) × (names_rows source ≡ map {B = List ℕ × ℤ} (λ row. (row.0, pos row.1)) rows)
 unfolding header_text names_of
 spelled_accepted name rows h good =
-    let rest = flat_map (λ (row : List ℕ × ℕ). row_line row ++ 10 ∷ []) rows in
-    (record { name = name; header = to_end 1 (header_text name) 1; bindings = placed_from 2 rows },
+    let rest = flat_map (λ (row : List ℕ × ℕ). row_line row ++ 10 ∷ []) rows in (
+      record { name = name; header = to_end 1 (header_text name) 1; bindings = placed_from 2 rows },
       ap source_of (append_assoc (header_text name) (10 ∷ []) rest)
-      ∙ ap source_in (slice_split_at (λ b. b == 10) (header_text name) 10 rest (header_no_end name h) refl)
-      ∙ accepted (λ b. b == 10) (header_text name) rest name (placed_from 2 rows) (header_again name h) (sym (lines_again 2 [] rows good)),
+          ∙ ap source_in (slice_split_at (λ b. b == 10) (header_text name) 10 rest (header_no_end name h) refl)
+          ∙ accepted (λ b. b == 10) (header_text name) rest name (placed_from 2 rows) (header_again name h) (sym (lines_again 2 [] rows good)),
       refl,
-      same_rows 2 rows)
+      same_rows 2 rows,
+    )

@@ -127,15 +127,16 @@ spelled_lines k before after (last ∷ []) h =
     ap (λ (l : List ℕ). flat_map line_of before ++ l) (no_more last e.0) ∙ append-nil (flat_map line_of before) ∙ ap (flat_map line_of) e.1
 spelled_lines k before after (line ∷ next ∷ more) h =
     elim (with_line k before line) as (λ o. with_line k before line ≡ o
-        → elim o as (λ _. Result (List Binding) RefusedLine) [ None ↦ refused k | Some bindings ↦ bindings_in (k + 1) bindings (next ∷ more) ] ≡ Ok after
-        → flat_map line_of before ++ (line ++ (10 ∷ join_with_byte 10 (next ∷ more))) ≡ flat_map line_of after)
-      [ None ↦ λ w e. absurd (cc)
+    → elim o as (λ _. Result (List Binding) RefusedLine) [ None ↦ refused k | Some bindings ↦ bindings_in (k + 1) bindings (next ∷ more) ] ≡ Ok after
+    → flat_map line_of before ++ (line ++ (10 ∷ join_with_byte 10 (next ∷ more))) ≡ flat_map line_of after) [
+      | None ↦ λ w e. absurd (cc)
       | Some bindings ↦ λ w e.
           ap (λ (l : List ℕ). flat_map line_of before ++ l) (sym (append_assoc line (10 ∷ []) (join_with_byte 10 (next ∷ more))))
           ∙ sym (append_assoc (flat_map line_of before) (line ++ 10 ∷ []) (join_with_byte 10 (next ∷ more)))
           ∙ ap (λ (l : List ℕ). l ++ join_with_byte 10 (next ∷ more)) (sym (added_line k before bindings line w))
-          ∙ spelled_lines (k + 1) bindings after (next ∷ more) e ]
-      refl h
+          ∙ spelled_lines (k + 1) bindings after (next ∷ more) e
+    ]
+    refl h
 
 -- the words of a header spell its line
 header_line : (line name : List ℕ) → header_of line ≡ Some name → line ≡ codes "module " ++ name ++ codes " where"

@@ -56,11 +56,11 @@ pub record ReadsFile {F : Type 0} (tells : Bool) (held : F → Contents) (faults
 -- A whole run, where memory does not run out: words that are no command leave the files alone; else
 -- the file is read, and the calls are those that the answer asks for.
 pub record HasRun {F S K : Type 0} (files_tell : Bool) (contents : F → Contents) (files_faults : F → ℕ)
-  (shelf_tells : Bool) (held : S → Contents) (shelf_faults : S → ℕ) (tells : Bool) (taken : K → List ℕ) (faults : K → ℕ)
-  (files files' : F) (shelf shelf' : S) (sink sink' : K) (words : List (List ℕ)) (answer : Status) : Type 0 where
+    (shelf_tells : Bool) (held : S → Contents) (shelf_faults : S → ℕ) (tells : Bool) (taken : K → List ℕ) (faults : K → ℕ)
+    (files files' : F) (shelf shelf' : S) (sink sink' : K) (words : List (List ℕ)) (answer : Status) : Type 0 where
   pub calls :
-    MatchOption (file_word words)
+      MatchOption (file_word words)
       ((files' ≡ files) × Makes shelf_tells held shelf_faults tells taken faults shelf shelf' sink sink' bad_words answer)
       (λ path. (found : ReadFile)
-        × ReadsFile files_tell contents files_faults files files' path found
-        × Makes shelf_tells held shelf_faults tells taken faults shelf shelf' sink sink' (of_answer path found) answer)
+      × ReadsFile files_tell contents files_faults files files' path found
+      × Makes shelf_tells held shelf_faults tells taken faults shelf shelf' sink sink' (of_answer path found) answer)

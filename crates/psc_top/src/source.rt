@@ -133,13 +133,11 @@ pub fn source_of(alloc: Global, bytes: &[u8]) -> Result<Result<Source, RefusedLi
 /// A file that is accepted is spelled as its source is, and no other way.
 pub fn accepted_is_spelled()
     ensures { (bytes : List ℕ) (source : Source) → spec.source_of bytes ≡ Ok source → bytes ≡ spelling source }
-{
-}
+{}
 
 /// A file that is spelled by the rules is accepted, and its source has the same names and numbers.
 pub fn spelled_is_accepted()
     ensures { (name : List ℕ) (rows : List (List ℕ × ℕ)) → IsTrue (is_module_word name) → AreRows [] rows
         → (source : Source) × (spec.source_of (file_of name rows) ≡ Ok source) × (source.name ≡ name)
-          × (names_rows source ≡ map (λ row. (row.0, pos row.1)) rows) }
-{
-}
+        × (names_rows source ≡ map (λ row. (row.0, pos row.1)) rows) }
+{}

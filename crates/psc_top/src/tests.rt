@@ -181,9 +181,27 @@ fn other_words_are_refused_and_an_absent_file_is_told(rt: HostRuntime) -> Result
     let alloc = rt.alloc();
     check_words(&rt, alloc, [].as_slice(), 2, "purs: bad words\n")?;
     check_words(&rt, alloc, ["compile"].as_slice(), 2, "purs: bad words\n")?;
-    check_words(&rt, alloc, ["build", "Q.purs"].as_slice(), 2, "purs: bad words\n")?;
-    check_words(&rt, alloc, ["compile", "Q.purs", "Q.purs"].as_slice(), 2, "purs: bad words\n")?;
-    check_words(&rt, alloc, ["compile", "P.purs"].as_slice(), 3, "not found: P.purs\n")
+    check_words(
+        &rt,
+        alloc,
+        ["build", "Q.purs"].as_slice(),
+        2,
+        "purs: bad words\n",
+    )?;
+    check_words(
+        &rt,
+        alloc,
+        ["compile", "Q.purs", "Q.purs"].as_slice(),
+        2,
+        "purs: bad words\n",
+    )?;
+    check_words(
+        &rt,
+        alloc,
+        ["compile", "P.purs"].as_slice(),
+        3,
+        "not found: P.purs\n",
+    )
 }
 
 #[test]
