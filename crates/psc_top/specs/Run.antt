@@ -8,7 +8,7 @@ use Rattle.psc_top.specs.declared.source.Source.{Source}
 use Rattle.psc_top.specs.declared.source.RefusedLine.{RefusedLine}
 use Rattle.psc_top.specs.Reading.{source_of}
 use Rattle.psc_top.specs.Core.{module_of}
-use Rattle.psc_top.specs.Text.{corefn_text}
+use Rattle.psc_corefn.specs.Module.{corefn}
 
 -- the file word of the words `compile FILE`
 abbrev pub file_word : List (List ℕ) → Option (List ℕ)
@@ -52,7 +52,7 @@ abbrev pub accepted : Source → Outcome
 accepted source = record {
   status = status.Accepted;
   text = line (codes "modules 1 errors 0 skipped 0");
-  stored = Some (stored_name source.name, corefn_text (module_of source));
+  stored = Some (stored_name source.name, corefn (module_of source));
 }
 
 abbrev pub of_source : List ℕ → Result Source RefusedLine → Outcome

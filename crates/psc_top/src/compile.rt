@@ -14,7 +14,7 @@ ghost use Rattle.psc_top.specs.Calls.{Says, Makes, ReadsFile, HasRun};
 use crate::core_module::core_module_of;
 use crate::report::{file_word, not_found, read_fault, refusal, stored_name};
 use crate::source::{Source, source_of};
-use crate::text::corefn_of;
+use psc_corefn::corefn_text;
 use psc_outside::{Files, Put, ReadFile, Shelf, Sink, Status};
 use psc_text::{NoMemory, Text};
 use std::alloc::Global;
@@ -40,7 +40,7 @@ fn keep<S: Shelf, K: Sink>(
         shelf.old shelf.new out.old out.new (run.accepted source) answer) }
 {
     let name = stored_name(alloc, &source.name)?;
-    let text = corefn_of(alloc, &core_module_of(alloc, source)?)?;
+    let text = corefn_text(alloc, &core_module_of(alloc, source)?)?;
     match shelf.replace(alloc, name.as_str(), text.as_str().as_bytes())? {
         Put::Done => say(
             alloc,

@@ -7,7 +7,6 @@ mod line;
 mod printed;
 mod report;
 mod source;
-mod text;
 mod words;
 
 pub use compile::compile_alone;
