@@ -5,14 +5,12 @@
 //! This crate knows nothing of what types, expressions or declarations look like.
 #![tactic(auto)]
 
-mod depth;
 mod fault;
 mod literal;
 mod name;
 mod step;
 mod symbol;
 
-pub use depth::{deepest, nesting};
 pub use fault::{Fault, Parsed, whole};
 pub use literal::{character, integer_value, is_out_of_range, string};
 pub use name::{ident, label, lower, mention, module_name, op, upper};

@@ -15,6 +15,6 @@ mod sides;
 
 pub use blocks::one_clause;
 pub use exprs::{one_expr, parse_expr};
-pub use psc_parse_base::nesting;
+pub use psc_nesting::nesting;
 pub use psc_parse_binder::parse_binder;
 pub use psc_parse_type::parse_type;
