@@ -21,7 +21,14 @@ for c in crates:
     if os.path.exists(p): S[c] = sections(p)
     else: print('no part for', c); S[c] = {}
 def head(name): return open(os.path.join(heads, name)).read().rstrip('\n')
-arch = [head('architecture.md')]
+def mapped(text):
+    lines = []
+    for l in text.split('\n'):
+        m = re.match(r'^\[(\w+)\]', l)
+        if m and m.group(1) not in crates: continue
+        lines.append(re.sub(r'^\[\w+\]', '', l))
+    return '\n'.join(lines)
+arch = [mapped(head('architecture.md'))]
 for c in crates:
     if S[c].get('architecture'): arch.append(f'## {c}\n\n' + S[c]['architecture'])
     else: print('no architecture for', c)
