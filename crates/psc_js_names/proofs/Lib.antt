@@ -1,2 +1,2 @@
-pub mod Letters
+pub mod Spelled
 pub mod Tops

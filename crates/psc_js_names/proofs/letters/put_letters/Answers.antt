@@ -2,7 +2,7 @@ use Rattle.std.proofs.Common.{sym, ◌∙◌, ap}
 use Rattle.std.proofs.lemmas.Str.{IsUtf8-past_char, chars_past_char, chars-nil}
 use Rattle.std.proofs.lemmas.List.{nil_from_length}
 use Rattle.std.specs.Str.{chars}
-use Rattle.psc_js_names.proofs.Letters.{letters-turn, letters-end}
+use Rattle.psc_js_names.proofs.Spelled.{letters-turn, letters-end}
 use Rattle.psc_js_names.proofs.letters.put_letters.Goals as goal
 
 pub loop-letter-preserved : goal.loop-letter-preserved
