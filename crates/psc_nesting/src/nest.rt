@@ -13,7 +13,7 @@ use psc_text::NoMemory;
 use std::alloc::Global;
 
 /// How much nests at a place, and how much at most so far. Both stop at the largest number.
-#[derive(Clone, Copy, Debug)]
+#[derive(Clone, Copy)]
 pub(crate) struct Depth {
     level: u32,
     deepest: u32,
@@ -39,7 +39,7 @@ impl Depth {
 }
 
 /// What reaches on to the end of a bracket or of a block's item.
-#[derive(Clone, Copy, Debug)]
+#[derive(Clone, Copy)]
 pub(crate) struct Held {
     /// How many lambdas and the like do.
     reaching: u32,
@@ -70,14 +70,14 @@ impl Held {
 }
 
 /// A bracket without partner so far.
-#[derive(Clone, Copy, Debug)]
+#[derive(Clone, Copy)]
 pub(crate) struct Bracket {
     shape: Shape,
     held: Held,
 }
 
 /// A block that is open, or the whole that is counted.
-#[derive(Clone, Copy, Debug)]
+#[derive(Clone, Copy)]
 pub(crate) struct Block {
     /// What reaches on to the end of its item.
     held: Held,
@@ -86,7 +86,7 @@ pub(crate) struct Block {
 }
 
 /// What is open at a place.
-#[derive(Debug, Drop)]
+#[derive(Drop)]
 pub(crate) struct Nest {
     brackets: Vec<Bracket>,
     block: Block,
@@ -264,7 +264,7 @@ impl Nest {
     fn close_blocks(&mut self, count: u32)
         ensures { spec.state self.new ≡ spec.close_blocks count (spec.state self.old) }
     {
-        'blocks: for _block in 0..count {
+        'ends: for _block in 0..count {
             self.close_block();
         }
     }

@@ -6,7 +6,7 @@ ghost use Rattle.psc_nesting.specs.Role as spec;
 use psc_lex::Sign;
 
 /// The brackets that have partners.
-#[derive(Clone, Copy, Debug, PartialEq, Eq)]
+#[derive(Clone, Copy)]
 pub(crate) enum Shape {
     Paren,
     Bracket,
@@ -14,7 +14,7 @@ pub(crate) enum Shape {
 }
 
 /// What a token is to nesting.
-#[derive(Clone, Copy, Debug, PartialEq, Eq)]
+#[derive(Clone, Copy)]
 pub(crate) enum Role {
     Opens(Shape),
     Closes(Shape),

@@ -4,7 +4,7 @@ use crate::token::{begins_atom, names_at, negative, token};
 use psc_ast::{BinderField, BinderStep, BinderTree};
 use psc_lex::{Sign, Tok};
 use psc_parse_base::{Fault, Next, Parsed, Sym, content, eat, expect, label, mention, peek, sees, span_of, symbols, whole};
-use psc_parse_type::whole_type;
+use psc_parse_type::boxed_type;
 use psc_text::NoMemory;
 use sqlite_items::{Boxed, Items};
 use std::alloc::Global;
@@ -34,10 +34,21 @@ fn is_label(next: Next) -> bool {
     }
 }
 
+/// A tree that is made, in the place of its own that other trees hold it in, and what stands behind it.
+fn made(alloc: Global, tree: BinderTree, rest: &[Sym]) -> Parsed<'_, Boxed<BinderTree>> {
+    Ok((Boxed::new(alloc, tree)?, rest))
+}
+
+/// The same for what was read.
+fn boxed(alloc: Global, read: Parsed<'_, BinderTree>) -> Parsed<'_, Boxed<BinderTree>> {
+    let (tree, rest) = read?;
+    made(alloc, tree, rest)
+}
+
 impl Binders {
     /// A whole binder inside brackets.
     #[cycle(binders)]
-    fn inner<'a>(&self, syms: &'a [Sym]) -> Parsed<'a, BinderTree> {
+    fn inner<'a>(&self, syms: &'a [Sym]) -> Parsed<'a, Boxed<BinderTree>> {
         if self.depth == 0 {
             return Err(Fault::Grammar);
         }
@@ -48,14 +59,13 @@ impl Binders {
     #[cycle(binders)]
     fn listed<'a>(&self, syms: &'a [Sym]) -> Parsed<'a, Items<BinderTree>> {
         let mut found = Items::new(self.alloc);
-        let (first, mut rest) = self.inner(syms)?;
-        found.push(first)?;
+        let mut rest = syms;
         for _turn in 0..syms.len() {
-            let Some(after) = eat(rest, Sign::Comma) else {
-                return Ok((found, rest));
+            let (next, after) = self.inner(rest)?;
+            found.push(next.into_inner())?;
+            let Some(after) = eat(after, Sign::Comma) else {
+                return Ok((found, after));
             };
-            let (next, after) = self.inner(after)?;
-            found.push(next)?;
             rest = after;
         }
         Err(Fault::Grammar)
@@ -63,29 +73,27 @@ impl Binders {
 
     /// `(b)` or `(b :: t)`, from the parenthesis on.
     #[cycle(binders)]
-    fn in_parens<'a>(&self, syms: &'a [Sym]) -> Parsed<'a, BinderTree> {
+    fn in_parens<'a>(&self, syms: &'a [Sym]) -> Parsed<'a, Boxed<BinderTree>> {
         let (inner, rest) = self.inner(expect(syms, Sign::LeftParen)?)?;
-        let inner = Boxed::new(self.alloc, inner)?;
         let Some(after) = eat(rest, Sign::DoubleColon) else {
             let rest = expect(rest, Sign::RightParen)?;
-            return Ok((BinderTree::Paren { inner, span: span_of(syms, rest) }, rest));
+            return made(self.alloc, BinderTree::Paren { inner, span: span_of(syms, rest) }, rest);
         };
-        let (x_type, rest) = whole_type(self.alloc, after)?;
-        let x_type = Boxed::new(self.alloc, x_type)?;
+        let (x_type, rest) = boxed_type(self.alloc, after)?;
         let rest = expect(rest, Sign::RightParen)?;
-        Ok((BinderTree::Typed { inner, x_type, span: span_of(syms, rest) }, rest))
+        made(self.alloc, BinderTree::Typed { inner, x_type, span: span_of(syms, rest) }, rest)
     }
 
     #[cycle(binders)]
-    fn array<'a>(&self, syms: &'a [Sym]) -> Parsed<'a, BinderTree> {
+    fn array<'a>(&self, syms: &'a [Sym]) -> Parsed<'a, Boxed<BinderTree>> {
         let open = expect(syms, Sign::LeftBracket)?;
         if let Some(rest) = eat(open, Sign::RightBracket) {
             let items = Items::new(self.alloc);
-            return Ok((BinderTree::Array { items, span: span_of(syms, rest) }, rest));
+            return made(self.alloc, BinderTree::Array { items, span: span_of(syms, rest) }, rest);
         }
         let (items, rest) = self.listed(open)?;
         let rest = expect(rest, Sign::RightBracket)?;
-        Ok((BinderTree::Array { items, span: span_of(syms, rest) }, rest))
+        made(self.alloc, BinderTree::Array { items, span: span_of(syms, rest) }, rest)
     }
 
     #[cycle(binders)]
@@ -95,7 +103,6 @@ impl Binders {
             return Ok((BinderField { label, value: None }, rest));
         };
         let (value, rest) = self.inner(after)?;
-        let value = Boxed::new(self.alloc, value)?;
         Ok((BinderField { label, value: Some(value) }, rest))
     }
 
@@ -105,46 +112,44 @@ impl Binders {
         if !is_label(peek(syms)) {
             return Ok((found, syms));
         }
-        let (first, mut rest) = self.field(syms)?;
-        found.push(first)?;
+        let mut rest = syms;
         for _turn in 0..syms.len() {
-            let Some(after) = eat(rest, Sign::Comma) else {
-                return Ok((found, rest));
-            };
-            let (next, after) = self.field(after)?;
+            let (next, after) = self.field(rest)?;
             found.push(next)?;
+            let Some(after) = eat(after, Sign::Comma) else {
+                return Ok((found, after));
+            };
             rest = after;
         }
         Err(Fault::Grammar)
     }
 
     #[cycle(binders)]
-    fn in_braces<'a>(&self, syms: &'a [Sym]) -> Parsed<'a, BinderTree> {
+    fn in_braces<'a>(&self, syms: &'a [Sym]) -> Parsed<'a, Boxed<BinderTree>> {
         let (fields, rest) = self.fields(expect(syms, Sign::LeftBrace)?)?;
         let rest = expect(rest, Sign::RightBrace)?;
-        Ok((BinderTree::XRecord { fields, span: span_of(syms, rest) }, rest))
+        made(self.alloc, BinderTree::XRecord { fields, span: span_of(syms, rest) }, rest)
     }
 
     /// An atom without names and `@` before it.
     #[cycle(binders)]
-    fn bare<'a>(&self, syms: &'a [Sym]) -> Parsed<'a, BinderTree> {
+    fn bare<'a>(&self, syms: &'a [Sym]) -> Parsed<'a, Boxed<BinderTree>> {
         match peek(syms) {
             Next::Token(Sign::LeftParen) => self.in_parens(syms),
             Next::Token(Sign::LeftBracket) => self.array(syms),
             Next::Token(Sign::LeftBrace) => self.in_braces(syms),
-            _ => token(self.alloc, syms),
+            _ => boxed(self.alloc, token(self.alloc, syms)),
         }
     }
 
     #[cycle(binders)]
-    fn atom<'a>(&self, syms: &'a [Sym]) -> Parsed<'a, BinderTree> {
+    fn atom<'a>(&self, syms: &'a [Sym]) -> Parsed<'a, Boxed<BinderTree>> {
         let (names, rest) = names_at(self.alloc, syms)?;
         let (inner, rest) = self.bare(rest)?;
         if names.is_empty() {
             return Ok((inner, rest));
         }
-        let inner = Boxed::new(self.alloc, inner)?;
-        Ok((BinderTree::Named { names, inner, span: span_of(syms, rest) }, rest))
+        made(self.alloc, BinderTree::Named { names, inner, span: span_of(syms, rest) }, rest)
     }
 
     #[cycle(binders)]
@@ -156,7 +161,7 @@ impl Binders {
                 return Ok((found, rest));
             }
             let (next, after) = self.atom(rest)?;
-            found.push(next)?;
+            found.push(next.into_inner())?;
             rest = after;
         }
         Ok((found, rest))
@@ -164,16 +169,16 @@ impl Binders {
 
     /// An operand of a chain.
     #[cycle(binders)]
-    fn operand<'a>(&self, syms: &'a [Sym]) -> Parsed<'a, BinderTree> {
+    fn operand<'a>(&self, syms: &'a [Sym]) -> Parsed<'a, Boxed<BinderTree>> {
         if sees(syms, Sign::Minus) {
-            return negative(syms);
+            return boxed(self.alloc, negative(syms));
         }
         if !is_upper(peek(syms)) {
             return self.atom(syms);
         }
         let (name, rest) = mention(self.alloc, syms)?;
         let (arguments, rest) = self.atoms(rest)?;
-        Ok((BinderTree::Constructor { name, arguments, span: span_of(syms, rest) }, rest))
+        made(self.alloc, BinderTree::Constructor { name, arguments, span: span_of(syms, rest) }, rest)
     }
 
     /// Operators and the operands behind them, as many as come.
@@ -187,21 +192,20 @@ impl Binders {
             }
             let (op, after) = mention(self.alloc, rest)?;
             let (operand, after) = self.operand(after)?;
-            found.push(BinderStep { op, operand })?;
+            found.push(BinderStep { op, operand: operand.into_inner() })?;
             rest = after;
         }
         Ok((found, rest))
     }
 
     #[cycle(binders)]
-    fn whole<'a>(&self, syms: &'a [Sym]) -> Parsed<'a, BinderTree> {
+    fn whole<'a>(&self, syms: &'a [Sym]) -> Parsed<'a, Boxed<BinderTree>> {
         let (first, rest) = self.operand(syms)?;
         let (steps, rest) = self.steps(rest)?;
         if steps.is_empty() {
             return Ok((first, rest));
         }
-        let first = Boxed::new(self.alloc, first)?;
-        Ok((BinderTree::Chain { first, rest: steps, span: span_of(syms, rest) }, rest))
+        made(self.alloc, BinderTree::Chain { first, rest: steps, span: span_of(syms, rest) }, rest)
     }
 }
 
@@ -210,7 +214,7 @@ fn rules(alloc: Global, syms: &[Sym]) -> Binders {
 }
 
 /// A binder.
-pub fn one_binder(alloc: Global, syms: &[Sym]) -> Parsed<'_, BinderTree> {
+pub fn one_binder(alloc: Global, syms: &[Sym]) -> Parsed<'_, Boxed<BinderTree>> {
     rules(alloc, syms).whole(syms)
 }
 
@@ -235,5 +239,8 @@ pub fn list(alloc: Global, syms: &[Sym]) -> Parsed<'_, Items<BinderTree>> {
 /// None exactly where they are not of the grammar. Tokens nest no deeper than the limit on items, which the caller has seen.
 pub fn parse_binder(alloc: Global, toks: &[Tok]) -> Result<Option<BinderTree>, NoMemory> {
     let syms = symbols(alloc, toks)?;
-    whole(one_binder(alloc, content(syms.as_slice())))
+    match whole(one_binder(alloc, content(syms.as_slice())))? {
+        Some(found) => Ok(Some(found.into_inner())),
+        None => Ok(None),
+    }
 }

@@ -1,13 +1,35 @@
 //! Alternatives, local bindings and statements, and the blocks of them.
 
 use crate::exprs::{Exprs, rules};
+use crate::sides::Draw;
 use psc_ast::{Alt, Bind, Clause, ExprTree, Stmt};
 use psc_lex::Sign;
-use psc_parse_base::{Fault, Next, Parsed, Sym, comes, eat, expect, goes_on, ident, lower, opens_block, peek_second, sees, span_of};
+use psc_parse_atom::Holes;
+use psc_parse_base::{Fault, Next, Parsed, Sym, eat, expect, goes_on, ident, lower, opens_block, peek_second, sees, span_of};
 use psc_parse_binder::{atoms, list, one_binder};
 use psc_parse_type::sig;
+use psc_text::Span;
 use sqlite_items::Items;
 use std::alloc::Global;
+
+fn stmt_of(draw: Draw, span: Span) -> Stmt {
+    let Draw { binder, value } = draw;
+    match binder {
+        None => Stmt::Run { value: value.into_inner() },
+        Some(binder) => Stmt::Binds { binder: binder.into_inner(), value: value.into_inner(), span },
+    }
+}
+
+/// A signature among bindings.
+fn local_sig(alloc: Global, syms: &[Sym]) -> Parsed<'_, Bind> {
+    let (sig, rest) = sig(alloc, syms)?;
+    Ok((Bind::Sig(sig), rest))
+}
+
+/// Whether what comes behind a lower name makes a binding a pattern, and not a clause.
+fn begins_pattern(syms: &[Sym]) -> bool {
+    !lower(syms) || peek_second(syms) == Next::Token(Sign::At)
+}
 
 impl Exprs {
     #[cycle(exprs)]
@@ -18,7 +40,7 @@ impl Exprs {
     }
 
     #[cycle(exprs)]
-    pub fn alts<'a>(&self, syms: &'a [Sym]) -> Parsed<'a, Items<Alt>> {
+    pub(crate) fn alts<'a>(&self, syms: &'a [Sym]) -> Parsed<'a, Items<Alt>> {
         let mut found = Items::new(self.alloc);
         let (mut more, mut rest) = opens_block(syms)?;
         for _turn in 0..syms.len() {
@@ -34,7 +56,7 @@ impl Exprs {
 
     /// A clause of a function or a value.
     #[cycle(exprs)]
-    pub fn clause<'a>(&self, syms: &'a [Sym]) -> Parsed<'a, Clause> {
+    pub(crate) fn clause<'a>(&self, syms: &'a [Sym]) -> Parsed<'a, Clause> {
         let (name, rest) = ident(syms)?;
         let (arguments, rest) = atoms(self.alloc, rest)?;
         let (rhs, rest) = self.rhs(rest, Sign::Equals)?;
@@ -43,21 +65,20 @@ impl Exprs {
 
     /// A binder and its right side.
     #[cycle(exprs)]
-    fn value<'a>(&self, syms: &'a [Sym]) -> Parsed<'a, Bind> {
+    fn pattern<'a>(&self, syms: &'a [Sym]) -> Parsed<'a, Bind> {
         let (binder, rest) = one_binder(self.alloc, syms)?;
         let (rhs, rest) = self.rhs(rest, Sign::Equals)?;
-        Ok((Bind::Value { binder, rhs, span: span_of(syms, rest) }, rest))
+        Ok((Bind::Value { binder: binder.into_inner(), rhs, span: span_of(syms, rest) }, rest))
     }
 
     /// A local binding: what begins with a lower name and no `@` is a signature or a clause.
     #[cycle(exprs)]
     fn bind<'a>(&self, syms: &'a [Sym]) -> Parsed<'a, Bind> {
-        if !lower(syms) || peek_second(syms) == Next::Token(Sign::At) {
-            return self.value(syms);
+        if begins_pattern(syms) {
+            return self.pattern(syms);
         }
         if peek_second(syms) == Next::Token(Sign::DoubleColon) {
-            let (sig, rest) = sig(self.alloc, syms)?;
-            return Ok((Bind::Sig(sig), rest));
+            return local_sig(self.alloc, syms);
         }
         let (clause, rest) = self.clause(syms)?;
         Ok((Bind::Clause(clause), rest))
@@ -80,7 +101,7 @@ impl Exprs {
 
     /// The block of a `let` or `where` inside an expression.
     #[cycle(exprs)]
-    pub fn locals<'a>(&self, syms: &'a [Sym]) -> Parsed<'a, Items<Bind>> {
+    pub(crate) fn locals<'a>(&self, syms: &'a [Sym]) -> Parsed<'a, Items<Bind>> {
         if self.depth == 0 {
             return Err(Fault::Grammar);
         }
@@ -94,7 +115,7 @@ impl Exprs {
         let Some(after) = eat(rest, Sign::In) else {
             return Ok((Stmt::Let { binds, span: span_of(syms, rest) }, rest));
         };
-        let (body, rest) = self.boxed(after)?;
+        let (body, rest) = self.expr(after, Holes::Refused)?;
         let value = ExprTree::Let { binds, body, span: span_of(syms, rest) };
         Ok((Stmt::Run { value }, rest))
     }
@@ -104,17 +125,12 @@ impl Exprs {
         if sees(syms, Sign::Let) {
             return self.let_step(syms);
         }
-        if !comes(syms, Sign::LeftArrow) {
-            let (value, rest) = self.inner(syms)?;
-            return Ok((Stmt::Run { value }, rest));
-        }
-        let (binder, rest) = one_binder(self.alloc, syms)?;
-        let (value, rest) = self.inner(expect(rest, Sign::LeftArrow)?)?;
-        Ok((Stmt::Binds { binder, value, span: span_of(syms, rest) }, rest))
+        let (draw, rest) = self.draw(syms)?;
+        Ok((stmt_of(draw, span_of(syms, rest)), rest))
     }
 
     #[cycle(exprs)]
-    pub fn stmts<'a>(&self, syms: &'a [Sym]) -> Parsed<'a, Items<Stmt>> {
+    pub(crate) fn stmts<'a>(&self, syms: &'a [Sym]) -> Parsed<'a, Items<Stmt>> {
         let mut found = Items::new(self.alloc);
         let (mut more, mut rest) = opens_block(syms)?;
         for _turn in 0..syms.len() {

@@ -2,7 +2,7 @@
 //!
 //! The rules of the grammar, one function each, from left to right: an expression is a chain of operands, an operand calls
 //! joined by backticks, a call its parts, and a part an atom or one of the forms that begin with a keyword.
-//! A nested update and a `_` as a field's value or as the subject of an update are forms that this compiler does not have.
+//! A nested update and a `_` as a field's value are forms that this compiler does not have.
 //! This crate knows nothing of declarations.
 #![tactic(auto)]
 
@@ -10,7 +10,6 @@ mod atoms;
 mod blocks;
 mod exprs;
 mod forms;
-mod hole;
 mod sides;
 
 pub use blocks::one_clause;

@@ -1,55 +1,67 @@
 //! Right sides: guards, branches and their `where`.
 
 use crate::exprs::Exprs;
-use psc_ast::{Branch, Guard, Locals, Rhs, Test};
+use psc_ast::{BinderTree, Branch, ExprTree, Guard, Locals, Rhs, Test};
 use psc_lex::Sign;
+use psc_parse_atom::Holes;
 use psc_parse_base::{Fault, Parsed, Sym, comes, eat, expect, sees, span_of};
 use psc_parse_binder::one_binder;
-use sqlite_items::Items;
+use psc_text::Span;
+use sqlite_items::{Boxed, Items};
+
+/// `binder <- value`, or a value alone: a test of a guard, or a statement.
+#[derive(Drop)]
+pub(crate) struct Draw {
+    pub(crate) binder: Option<Boxed<BinderTree>>,
+    pub(crate) value: Boxed<ExprTree>,
+}
+
+fn test_of(draw: Draw, span: Span) -> Test {
+    let Draw { binder, value } = draw;
+    match binder {
+        None => Test::Holds { value: value.into_inner() },
+        Some(binder) => Test::Binds { binder: binder.into_inner(), value: value.into_inner(), span },
+    }
+}
 
 impl Exprs {
     #[cycle(exprs)]
-    fn test<'a>(&self, syms: &'a [Sym]) -> Parsed<'a, Test> {
+    pub(crate) fn draw<'a>(&self, syms: &'a [Sym]) -> Parsed<'a, Draw> {
         if !comes(syms, Sign::LeftArrow) {
-            let (value, rest) = self.inner(syms)?;
-            return Ok((Test::Holds { value }, rest));
+            let (value, rest) = self.expr(syms, Holes::Refused)?;
+            return Ok((Draw { binder: None, value }, rest));
         }
         let (binder, rest) = one_binder(self.alloc, syms)?;
-        let (value, rest) = self.inner(expect(rest, Sign::LeftArrow)?)?;
-        Ok((Test::Binds { binder, value, span: span_of(syms, rest) }, rest))
+        let (value, rest) = self.expr(expect(rest, Sign::LeftArrow)?, Holes::Refused)?;
+        Ok((Draw { binder: Some(binder), value }, rest))
     }
 
+    /// Tests with commas between them.
     #[cycle(exprs)]
     fn tests<'a>(&self, syms: &'a [Sym]) -> Parsed<'a, Items<Test>> {
         let mut found = Items::new(self.alloc);
-        let (first, mut rest) = self.test(syms)?;
-        found.push(first)?;
+        let mut rest = syms;
         for _turn in 0..syms.len() {
-            let Some(after) = eat(rest, Sign::Comma) else {
-                return Ok((found, rest));
+            let (next, after) = self.draw(rest)?;
+            found.push(test_of(next, span_of(rest, after)))?;
+            let Some(after) = eat(after, Sign::Comma) else {
+                return Ok((found, after));
             };
-            let (next, after) = self.test(after)?;
-            found.push(next)?;
             rest = after;
         }
         Err(Fault::Grammar)
     }
 
-    /// The bindings of a `where`, from that keyword on, if it comes.
-    #[cycle(exprs)]
-    fn where_locals<'a>(&self, syms: &'a [Sym]) -> Parsed<'a, Option<Locals>> {
-        let Some(rest) = eat(syms, Sign::Where) else {
-            return Ok((None, syms));
-        };
-        let (binds, rest) = self.locals(rest)?;
-        Ok((Some(Locals { binds, span: span_of(syms, rest) }), rest))
-    }
-
+    /// An expression behind the token `by`, and the bindings of its `where`, if that comes.
     #[cycle(exprs)]
     fn branch<'a>(&self, syms: &'a [Sym], by: Sign) -> Parsed<'a, Branch> {
-        let (body, rest) = self.boxed(expect(syms, by)?)?;
-        let (locals, rest) = self.where_locals(rest)?;
-        Ok((Branch { body, locals }, rest))
+        let (body, rest) = self.expr(expect(syms, by)?, Holes::Refused)?;
+        let Some(after) = eat(rest, Sign::Where) else {
+            return Ok((Branch { body, locals: None }, rest));
+        };
+        let (binds, end) = self.locals(after)?;
+        let locals = Some(Locals { binds, span: span_of(rest, end) });
+        Ok((Branch { body, locals }, end))
     }
 
     #[cycle(exprs)]
@@ -76,7 +88,7 @@ impl Exprs {
 
     /// A right side, whose expressions stand behind the token `by`.
     #[cycle(exprs)]
-    pub fn rhs<'a>(&self, syms: &'a [Sym], by: Sign) -> Parsed<'a, Rhs> {
+    pub(crate) fn rhs<'a>(&self, syms: &'a [Sym], by: Sign) -> Parsed<'a, Rhs> {
         if sees(syms, Sign::Bar) {
             let (guards, rest) = self.guards(syms, by)?;
             return Ok((Rhs::Guarded(guards), rest));

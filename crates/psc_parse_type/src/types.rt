@@ -323,6 +323,12 @@ pub fn whole_type(alloc: Global, syms: &[Sym]) -> Parsed<'_, TypeTree> {
     rules(alloc, syms).whole(syms)
 }
 
+/// A type, boxed as other trees hold it.
+pub fn boxed_type(alloc: Global, syms: &[Sym]) -> Parsed<'_, Boxed<TypeTree>> {
+    let (found, rest) = whole_type(alloc, syms)?;
+    Ok((Boxed::new(alloc, found)?, rest))
+}
+
 /// Arguments of a type, as many as come.
 pub fn atoms(alloc: Global, syms: &[Sym]) -> Parsed<'_, Items<TypeTree>> {
     rules(alloc, syms).atoms(syms)

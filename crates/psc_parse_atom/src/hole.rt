@@ -2,9 +2,12 @@
 //!
 //! As an operand of a chain or of backticks that is the whole content of parentheses, before `.label`, or as a scrutinee.
 
+use crate::make::made;
 use psc_ast::ExprTree;
 use psc_lex::Sign;
-use psc_parse_base::{Fault, Next, Sym, peek, peek_second, peek_third, sees};
+use psc_parse_base::{Fault, Next, Parsed, Sym, peek, peek_second, peek_third, sees};
+use sqlite_items::Boxed;
+use std::alloc::Global;
 
 /// Whether the operands of a chain may be a `_`.
 #[derive(Clone, Copy, Debug, PartialEq, Eq)]
@@ -39,11 +42,22 @@ pub fn begins_nested_update(syms: &[Sym]) -> bool {
         && peek_third(syms) == Next::Token(Sign::LeftBrace)
 }
 
-/// Why a `_` that comes may not stand here: as the subject of an update it is a form of PureScript.
-pub fn refused_hole(syms: &[Sym]) -> Fault {
-    match syms {
-        [_, rest @ ..] if begins_update(rest) || begins_nested_update(rest) => Fault::Outside,
-        _ => Fault::Grammar,
+/// Whether an update comes, or one inside it at once.
+fn is_updated(syms: &[Sym]) -> bool {
+    begins_update(syms) || begins_nested_update(syms)
+}
+
+/// A `_` that no `.label` follows, if one may stand here. As the subject of an update it is a form of PureScript.
+pub fn hole(alloc: Global, syms: &[Sym], holes: Holes) -> Parsed<'_, Boxed<ExprTree>> {
+    let [first, rest @ ..] = syms else {
+        return Err(Fault::Grammar);
+    };
+    if is_updated(rest) {
+        return Err(Fault::Outside);
+    }
+    match holes {
+        Holes::Allowed => made(alloc, ExprTree::Hole { span: first.span }, rest),
+        Holes::Refused => Err(Fault::Grammar),
     }
 }
 

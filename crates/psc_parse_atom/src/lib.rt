@@ -1,0 +1,16 @@
+//! What expressions are made of that needs no expression inside: atoms of one token, labels, names in backticks, the places
+//! where `_` may stand, and what comes behind an expression that is read.
+//!
+//! A `_` as a field's value or as the subject of an update is a form that this compiler does not have.
+//! This crate knows nothing of the forms that expressions nest in.
+#![tactic(auto)]
+
+mod begin;
+mod hole;
+mod make;
+mod token;
+
+pub use begin::{begins_part, is_operator, is_operator_alone};
+pub use hole::{Holes, bare_hole, begins_nested_update, begins_update, hole, is_field_hole, is_scrutinee_hole};
+pub use make::{access, boxed, made, minus_alone, ticked, typed};
+pub use token::{labels, token};
