@@ -4,7 +4,7 @@ use crate::hole::chain_has_hole;
 use psc_ast::{ExprTree, LabelAt, Mention};
 use psc_lex::Sign;
 use psc_parse_base::{Fault, Next, Parsed, Sym, eat, expect, mention, peek, sees, span_of};
-use psc_parse_type::boxed_type;
+use psc_parse_type::whole_type;
 use sqlite_items::{Boxed, Items};
 use std::alloc::Global;
 
@@ -46,7 +46,7 @@ pub fn typed<'a>(
     if chain_has_hole(value.get()) {
         return Err(Fault::Grammar);
     }
-    let (x_type, rest) = boxed_type(alloc, after)?;
+    let (x_type, rest) = whole_type(alloc, after)?;
     made(alloc, ExprTree::Typed { value, x_type, span: span_of(syms, rest) }, rest)
 }
 

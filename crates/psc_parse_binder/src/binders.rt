@@ -4,7 +4,7 @@ use crate::token::{begins_atom, names_at, negative, token};
 use psc_ast::{BinderField, BinderStep, BinderTree};
 use psc_lex::{Sign, Tok};
 use psc_parse_base::{Fault, Next, Parsed, Sym, content, eat, expect, label, mention, peek, sees, span_of, symbols, whole};
-use psc_parse_type::boxed_type;
+use psc_parse_type::whole_type;
 use psc_text::NoMemory;
 use sqlite_items::{Boxed, Items};
 use std::alloc::Global;
@@ -79,7 +79,7 @@ impl Binders {
             let rest = expect(rest, Sign::RightParen)?;
             return made(self.alloc, BinderTree::Paren { inner, span: span_of(syms, rest) }, rest);
         };
-        let (x_type, rest) = boxed_type(self.alloc, after)?;
+        let (x_type, rest) = whole_type(self.alloc, after)?;
         let rest = expect(rest, Sign::RightParen)?;
         made(self.alloc, BinderTree::Typed { inner, x_type, span: span_of(syms, rest) }, rest)
     }

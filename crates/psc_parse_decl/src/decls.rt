@@ -46,7 +46,7 @@ fn wrapper(alloc: Global, syms: &[Sym]) -> Parsed<'_, Items<Ctor>> {
     let (name, rest) = upper(syms)?;
     let (field, rest) = one_atom(alloc, rest)?;
     let mut fields = Items::new(alloc);
-    fields.push(field)?;
+    fields.push(field.into_inner())?;
     let mut found = Items::new(alloc);
     found.push(Ctor { name, fields, span: span_of(syms, rest) })?;
     Ok((found, rest))
@@ -63,7 +63,8 @@ fn synonym(alloc: Global, syms: &[Sym]) -> Parsed<'_, Decl> {
     let (name, rest) = upper(expect(syms, Sign::XType)?)?;
     let (vars, rest) = variables(alloc, rest)?;
     let (body, rest) = whole_type(alloc, expect(rest, Sign::Equals)?)?;
-    Ok((Decl::Synonym(SynonymDecl { name, vars, body, span: span_of(syms, rest) }), rest))
+    let (body, span) = (body.into_inner(), span_of(syms, rest));
+    Ok((Decl::Synonym(SynonymDecl { name, vars, body, span }), rest))
 }
 
 /// The keyword of a kind signature, if one comes: the keyword, an upper name and `::`.

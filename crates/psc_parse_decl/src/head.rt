@@ -1,7 +1,7 @@
 //! Module lines, and the head of a module: its line and the imports that it begins with.
 
 use crate::cut::{Left, cut_line, first_item, next_item};
-use crate::item::{Piece, piece};
+use crate::item::{Failed, Piece, piece};
 use crate::outside::{has_outside_form, names_builtin};
 use crate::refs::exports;
 use crate::verdict::{Wrong, error_at, refusal, wrong_of};
@@ -80,32 +80,51 @@ pub fn read_line(alloc: Global, line: &[Sym]) -> Result<Result<Line, PsError>, N
     }
 }
 
-/// The imports with which a module begins, or the error of the first that fails.
-fn leading_imports(
-    alloc: Global,
-    name: &ModuleName,
-    body: &[Sym],
-) -> Result<Result<Items<ImportTree>, PsError>, NoMemory> {
-    let mut found = Items::new(alloc);
+/// The imports with which a module begins, or the first of them that fails.
+fn leading_imports<'a>(alloc: Global, body: &'a [Sym], found: &mut Items<ImportTree>) -> Result<(), Failed<'a>> {
     let mut left = first_item(body);
     for _turn in 0..body.len() {
-        let Left::Item(syms, rest) = left else {
-            return Ok(Ok(found));
+        let Left::Item(item, rest) = left else {
+            return Ok(());
         };
-        if !sees(syms, Sign::Import) {
-            return Ok(Ok(found));
+        if !sees(item, Sign::Import) {
+            return Ok(());
         }
-        match piece(alloc, syms) {
-            Ok(Piece::Import(import)) => found.push(import)?,
-            Ok(Piece::Decl(_)) => return Ok(Ok(found)),
-            Err(wrong) => {
-                let module = Some(name.clone()?);
-                return Ok(Err(error_at(alloc, wrong, module, span_of(syms, &[]))?));
-            }
+        if let Err(wrong) = push_import(alloc, item, found) {
+            return Err(Failed { wrong, item });
         }
         left = next_item(rest);
     }
-    Ok(Ok(found))
+    Ok(())
+}
+
+fn push_import(alloc: Global, item: &[Sym], found: &mut Items<ImportTree>) -> Result<(), Wrong> {
+    match piece(alloc, item)? {
+        Piece::Import(import) => found.push(import.into_inner())?,
+        Piece::Decl(_) => {}
+    }
+    Ok(())
+}
+
+/// The head behind the module line, or the error of the first import that fails.
+fn read_imports(alloc: Global, line: Line, body: &[Sym]) -> Result<Result<ModuleHead, PsError>, NoMemory> {
+    let Line { name, where_line, .. } = line;
+    let ModuleAt { name, span } = name;
+    let mut imports = Items::new(alloc);
+    match leading_imports(alloc, body, &mut imports) {
+        Ok(()) => Ok(Ok(ModuleHead { name, name_span: span, imports, where_line })),
+        Err(Failed { wrong, item }) => {
+            Ok(Err(error_at(alloc, wrong, Some(name), span_of(item, &[]))?))
+        }
+    }
+}
+
+fn read_head(alloc: Global, syms: &[Sym]) -> Result<Result<ModuleHead, PsError>, NoMemory> {
+    let (line, body) = cut_line(syms);
+    match read_line(alloc, line)? {
+        Ok(line) => read_imports(alloc, line, body),
+        Err(error) => Ok(Err(error)),
+    }
 }
 
 /// The head of a module: its line and its leading imports.
@@ -114,15 +133,5 @@ fn leading_imports(
 pub fn header(alloc: Global, source: &str) -> Result<Result<ModuleHead, PsError>, NoMemory> {
     let toks = lex_layout(alloc, source)?;
     let syms = symbols(alloc, toks.as_slice())?;
-    let (line, body) = cut_line(syms.as_slice());
-    let line = match read_line(alloc, line)? {
-        Ok(line) => line,
-        Err(error) => return Ok(Err(error)),
-    };
-    let Line { name, where_line, .. } = line;
-    let ModuleAt { name, span } = name;
-    match leading_imports(alloc, &name, body)? {
-        Ok(imports) => Ok(Ok(ModuleHead { name, name_span: span, imports, where_line })),
-        Err(error) => Ok(Err(error)),
-    }
+    read_head(alloc, syms.as_slice())
 }

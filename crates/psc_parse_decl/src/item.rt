@@ -13,23 +13,28 @@ use psc_lex::{Sign, lex_layout};
 use psc_nesting::deepest;
 use psc_parse_base::{Parsed, Sym, sees, span_of, symbols};
 use psc_text::{NoMemory, Span};
-use sqlite_items::Items;
+use sqlite_items::{Boxed, Items};
 use std::alloc::Global;
 
 /// An item as it is read.
 #[derive(Drop)]
 pub enum Piece {
-    Import(ImportTree),
-    Decl(Decl),
+    Import(Boxed<ImportTree>),
+    Decl(Boxed<Decl>),
+}
+
+fn import_piece(alloc: Global, item: &[Sym]) -> Parsed<'_, Piece> {
+    let (found, rest) = import(alloc, item)?;
+    Ok((Piece::Import(Boxed::new(alloc, found)?), rest))
+}
+
+fn decl_piece(alloc: Global, item: &[Sym]) -> Parsed<'_, Piece> {
+    let (found, rest) = decl(alloc, item)?;
+    Ok((Piece::Decl(Boxed::new(alloc, found)?), rest))
 }
 
 fn any_piece(alloc: Global, item: &[Sym]) -> Parsed<'_, Piece> {
-    if sees(item, Sign::Import) {
-        let (found, rest) = import(alloc, item)?;
-        return Ok((Piece::Import(found), rest));
-    }
-    let (found, rest) = decl(alloc, item)?;
-    Ok((Piece::Decl(found), rest))
+    if sees(item, Sign::Import) { import_piece(alloc, item) } else { decl_piece(alloc, item) }
 }
 
 /// An item whose literals may be out of range yet.
@@ -64,24 +69,31 @@ struct Pieces {
     decls: Items<Decl>,
 }
 
+/// Whether the declaration is no instance that begins with `else`, or follows an instance of its class.
+fn goes_on_rightly(before: &[Decl], decl: &Decl) -> bool {
+    match decl {
+        Decl::Instance(instance) if instance.goes_on => match before {
+            [.., Decl::Instance(last)] => last.class.name.same(&instance.class.name),
+            _ => false,
+        },
+        _ => true,
+    }
+}
+
 impl Pieces {
     /// Whether the item may stand behind those so far: an import before all declarations, and what begins with `else`
     /// behind an instance of its class.
     fn may_follow(&self, next: &Piece) -> bool {
         match next {
             Piece::Import(_) => self.decls.is_empty(),
-            Piece::Decl(Decl::Instance(instance)) if instance.goes_on => match self.decls.as_slice() {
-                [.., Decl::Instance(last)] => last.class.name.same(&instance.class.name),
-                _ => false,
-            },
-            Piece::Decl(_) => true,
+            Piece::Decl(decl) => goes_on_rightly(self.decls.as_slice(), decl.get()),
         }
     }
 
     fn push(&mut self, next: Piece) -> Result<(), NoMemory> {
         match next {
-            Piece::Import(import) => self.imports.push(import)?,
-            Piece::Decl(decl) => self.decls.push(decl)?,
+            Piece::Import(import) => self.imports.push(import.into_inner())?,
+            Piece::Decl(decl) => self.decls.push(decl.into_inner())?,
         }
         Ok(())
     }
@@ -105,9 +117,9 @@ fn behind(syms: &[Sym]) -> Option<(&[Sym], Code)> {
 }
 
 /// What is wrong with the first item of a block that fails, and that item.
-struct Failed<'a> {
-    wrong: Wrong,
-    item: &'a [Sym],
+pub struct Failed<'a> {
+    pub wrong: Wrong,
+    pub item: &'a [Sym],
 }
 
 /// Reads all items of the module's block.
@@ -139,6 +151,26 @@ fn joined(line: Line, pieces: Pieces, syms: &[Sym]) -> Module {
     Module { name, header, where_line, exports, imports, decls, span: span_of(syms, &[]) }
 }
 
+/// The module behind its line, or the error of the first item that fails.
+fn read_body(alloc: Global, line: Line, body: &[Sym], syms: &[Sym]) -> Result<Result<Module, PsError>, NoMemory> {
+    let mut pieces = Pieces { imports: Items::new(alloc), decls: Items::new(alloc) };
+    match read_pieces(alloc, body, &mut pieces) {
+        Ok(()) => Ok(Ok(joined(line, pieces, syms))),
+        Err(Failed { wrong, item }) => {
+            let Line { name, .. } = line;
+            Ok(Err(error_at(alloc, wrong, Some(name.name), span_of(item, &[]))?))
+        }
+    }
+}
+
+fn read_module(alloc: Global, syms: &[Sym]) -> Result<Result<Module, PsError>, NoMemory> {
+    let (line, body) = cut_line(syms);
+    match read_line(alloc, line)? {
+        Ok(line) => read_body(alloc, line, body, syms),
+        Err(error) => Ok(Err(error)),
+    }
+}
+
 /// The module that a source spells.
 ///
 /// Err of the first item that fails, where the module line is the first item of all: OutsideProfile where a form of
@@ -148,19 +180,7 @@ fn joined(line: Line, pieces: Pieces, syms: &[Sym]) -> Module {
 pub fn parse(alloc: Global, source: &str) -> Result<Result<Module, PsError>, NoMemory> {
     let toks = lex_layout(alloc, source)?;
     let syms = symbols(alloc, toks.as_slice())?;
-    let (line, body) = cut_line(syms.as_slice());
-    let line = match read_line(alloc, line)? {
-        Ok(line) => line,
-        Err(error) => return Ok(Err(error)),
-    };
-    let mut pieces = Pieces { imports: Items::new(alloc), decls: Items::new(alloc) };
-    match read_pieces(alloc, body, &mut pieces) {
-        Ok(()) => Ok(Ok(joined(line, pieces, syms.as_slice()))),
-        Err(Failed { wrong, item }) => {
-            let module = Some(line.name.name.clone()?);
-            Ok(Err(error_at(alloc, wrong, module, span_of(item, &[]))?))
-        }
-    }
+    read_module(alloc, syms.as_slice())
 }
 
 /// The module that a file's bytes spell: as `parse`, and ErrorParsingModule at the source's start where they are not UTF-8.

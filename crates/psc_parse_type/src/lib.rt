@@ -8,4 +8,4 @@ mod kinds;
 mod types;
 
 pub use kinds::{kind, some_variables, variables};
-pub use types::{atoms, boxed_type, constraints, one_atom, parse_type, sig, whole_type};
+pub use types::{atoms, constraints, one_atom, parse_type, sig, whole_type};

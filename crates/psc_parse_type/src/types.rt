@@ -81,10 +81,43 @@ fn token(alloc: Global, syms: &[Sym]) -> Parsed<'_, TypeTree> {
     }
 }
 
+/// The tree, boxed as other trees hold it, and what stands behind it.
+fn made(alloc: Global, tree: TypeTree, rest: &[Sym]) -> Parsed<'_, Boxed<TypeTree>> {
+    Ok((Boxed::new(alloc, tree)?, rest))
+}
+
+/// A type of one token, boxed.
+fn boxed_token(alloc: Global, syms: &[Sym]) -> Parsed<'_, Boxed<TypeTree>> {
+    let (tree, rest) = token(alloc, syms)?;
+    made(alloc, tree, rest)
+}
+
+/// `(->)`, from the parenthesis on.
+fn function(alloc: Global, syms: &[Sym]) -> Parsed<'_, Boxed<TypeTree>> {
+    let rest = expect(expect(syms, Sign::LeftParen)?, Sign::Arrow)?;
+    let rest = expect(rest, Sign::RightParen)?;
+    made(alloc, TypeTree::Function { span: span_of(syms, rest) }, rest)
+}
+
+/// `forall a b.`, from that name on.
+fn quantifier(alloc: Global, syms: &[Sym]) -> Parsed<'_, TypePrefix> {
+    let (vars, rest) = some_variables(alloc, expect(syms, Sign::Forall)?)?;
+    let rest = expect(rest, Sign::Dot)?;
+    Ok((TypePrefix::Forall { vars, span: span_of(syms, rest) }, rest))
+}
+
+/// Whether `forall` comes as a quantifier, and not as the name of a variable.
+fn begins_quantifier(syms: &[Sym]) -> bool {
+    match eat(syms, Sign::Forall) {
+        Some(rest) => comes(rest, Sign::Dot),
+        None => false,
+    }
+}
+
 impl Types {
     /// A whole type inside brackets.
     #[cycle(types)]
-    fn inner<'a>(&self, syms: &'a [Sym]) -> Parsed<'a, TypeTree> {
+    fn inner<'a>(&self, syms: &'a [Sym]) -> Parsed<'a, Boxed<TypeTree>> {
         if self.depth == 0 {
             return Err(Fault::Grammar);
         }
@@ -96,7 +129,7 @@ impl Types {
         let (label, rest) = label(self.alloc, syms)?;
         let rest = expect(rest, Sign::DoubleColon)?;
         let (x_type, rest) = self.inner(rest)?;
-        Ok((RowField { label, x_type }, rest))
+        Ok((RowField { label, x_type: x_type.into_inner() }, rest))
     }
 
     #[cycle(types)]
@@ -105,14 +138,13 @@ impl Types {
         if !is_label(peek(syms)) {
             return Ok((found, syms));
         }
-        let (first, mut rest) = self.field(syms)?;
-        found.push(first)?;
+        let mut rest = syms;
         for _turn in 0..syms.len() {
-            let Some(after) = eat(rest, Sign::Comma) else {
-                return Ok((found, rest));
-            };
-            let (next, after) = self.field(after)?;
+            let (next, after) = self.field(rest)?;
             found.push(next)?;
+            let Some(after) = eat(after, Sign::Comma) else {
+                return Ok((found, after));
+            };
             rest = after;
         }
         Err(Fault::Grammar)
@@ -125,49 +157,47 @@ impl Types {
             return Ok((RowTree { fields, tail: None }, rest));
         };
         let (tail, rest) = self.inner(after)?;
-        let tail = Boxed::new(self.alloc, tail)?;
         Ok((RowTree { fields, tail: Some(tail) }, rest))
     }
 
-    /// A type in parentheses; a kind behind it is not for this compiler.
+    /// A row in parentheses, from the left one on.
     #[cycle(types)]
-    fn paren<'a>(&self, syms: &'a [Sym]) -> Parsed<'a, TypeTree> {
-        let (inner, rest) = self.inner(syms)?;
-        if sees(rest, Sign::DoubleColon) {
-            return Err(Fault::Outside);
-        }
-        Ok((inner, expect(rest, Sign::RightParen)?))
+    fn row_in_parens<'a>(&self, syms: &'a [Sym]) -> Parsed<'a, Boxed<TypeTree>> {
+        let (row, rest) = self.row(expect(syms, Sign::LeftParen)?)?;
+        let rest = expect(rest, Sign::RightParen)?;
+        made(self.alloc, TypeTree::Row { row, span: span_of(syms, rest) }, rest)
     }
 
     /// What stands in parentheses, from the left one on.
     #[cycle(types)]
-    fn in_parens<'a>(&self, syms: &'a [Sym]) -> Parsed<'a, TypeTree> {
+    fn in_parens<'a>(&self, syms: &'a [Sym]) -> Parsed<'a, Boxed<TypeTree>> {
         let open = expect(syms, Sign::LeftParen)?;
-        if let Some(rest) = eat(open, Sign::Arrow) {
-            let rest = expect(rest, Sign::RightParen)?;
-            return Ok((TypeTree::Function { span: span_of(syms, rest) }, rest));
+        if sees(open, Sign::Arrow) {
+            return function(self.alloc, syms);
         }
         if begins_row(open) {
-            let (row, rest) = self.row(open)?;
-            let rest = expect(rest, Sign::RightParen)?;
-            return Ok((TypeTree::Row { row, span: span_of(syms, rest) }, rest));
+            return self.row_in_parens(syms);
         }
-        let (inner, rest) = self.paren(open)?;
-        let inner = Boxed::new(self.alloc, inner)?;
-        Ok((TypeTree::Paren { inner, span: span_of(syms, rest) }, rest))
+        let (inner, rest) = self.inner(open)?;
+        let rest = expect(rest, Sign::RightParen)?;
+        made(self.alloc, TypeTree::Paren { inner, span: span_of(syms, rest) }, rest)
+    }
+
+    /// A row in braces, from the left one on.
+    #[cycle(types)]
+    fn record<'a>(&self, syms: &'a [Sym]) -> Parsed<'a, Boxed<TypeTree>> {
+        let (row, rest) = self.row(expect(syms, Sign::LeftBrace)?)?;
+        let rest = expect(rest, Sign::RightBrace)?;
+        made(self.alloc, TypeTree::XRecord { row, span: span_of(syms, rest) }, rest)
     }
 
     #[cycle(types)]
-    fn atom<'a>(&self, syms: &'a [Sym]) -> Parsed<'a, TypeTree> {
-        if sees(syms, Sign::LeftParen) {
-            return self.in_parens(syms);
+    fn atom<'a>(&self, syms: &'a [Sym]) -> Parsed<'a, Boxed<TypeTree>> {
+        match peek(syms) {
+            Next::Token(Sign::LeftParen) => self.in_parens(syms),
+            Next::Token(Sign::LeftBrace) => self.record(syms),
+            _ => boxed_token(self.alloc, syms),
         }
-        let Some(open) = eat(syms, Sign::LeftBrace) else {
-            return token(self.alloc, syms);
-        };
-        let (row, rest) = self.row(open)?;
-        let rest = expect(rest, Sign::RightBrace)?;
-        Ok((TypeTree::XRecord { row, span: span_of(syms, rest) }, rest))
     }
 
     #[cycle(types)]
@@ -179,7 +209,7 @@ impl Types {
                 return Ok((found, rest));
             }
             let (next, after) = self.atom(rest)?;
-            found.push(next)?;
+            found.push(next.into_inner())?;
             rest = after;
         }
         Ok((found, rest))
@@ -187,14 +217,14 @@ impl Types {
 
     /// A type and its arguments.
     #[cycle(types)]
-    fn application<'a>(&self, syms: &'a [Sym]) -> Parsed<'a, TypeTree> {
+    fn application<'a>(&self, syms: &'a [Sym]) -> Parsed<'a, Boxed<TypeTree>> {
         let (function, rest) = self.atom(syms)?;
         let (arguments, rest) = self.atoms(rest)?;
         if arguments.is_empty() {
             return Ok((function, rest));
         }
-        let function = Boxed::new(self.alloc, function)?;
-        Ok((TypeTree::Application { function, arguments, span: span_of(syms, rest) }, rest))
+        let span = span_of(syms, rest);
+        made(self.alloc, TypeTree::Application { function, arguments, span }, rest)
     }
 
     /// Operators and the operands behind them, as many as come.
@@ -208,21 +238,24 @@ impl Types {
             }
             let (op, after) = mention(self.alloc, rest)?;
             let (operand, after) = self.application(after)?;
-            found.push(TypeStep { op, operand })?;
+            found.push(TypeStep { op, operand: operand.into_inner() })?;
             rest = after;
         }
         Ok((found, rest))
     }
 
+    /// Operands with operators between them. A kind behind them is a form of PureScript.
     #[cycle(types)]
-    fn chain<'a>(&self, syms: &'a [Sym]) -> Parsed<'a, TypeTree> {
+    fn chain<'a>(&self, syms: &'a [Sym]) -> Parsed<'a, Boxed<TypeTree>> {
         let (first, rest) = self.application(syms)?;
         let (steps, rest) = self.steps(rest)?;
+        if sees(rest, Sign::DoubleColon) {
+            return Err(Fault::Outside);
+        }
         if steps.is_empty() {
             return Ok((first, rest));
         }
-        let first = Boxed::new(self.alloc, first)?;
-        Ok((TypeTree::Chain { first, rest: steps, span: span_of(syms, rest) }, rest))
+        made(self.alloc, TypeTree::Chain { first, rest: steps, span: span_of(syms, rest) }, rest)
     }
 
     #[cycle(types)]
@@ -239,14 +272,13 @@ impl Types {
     #[cycle(types)]
     fn listed<'a>(&self, syms: &'a [Sym]) -> Parsed<'a, Items<Constr>> {
         let mut found = Items::new(self.alloc);
-        let (first, mut rest) = self.constraint(syms)?;
-        found.push(first)?;
+        let mut rest = syms;
         for _turn in 0..syms.len() {
-            let Some(after) = eat(rest, Sign::Comma) else {
-                return Ok((found, rest));
-            };
-            let (next, after) = self.constraint(after)?;
+            let (next, after) = self.constraint(rest)?;
             found.push(next)?;
+            let Some(after) = eat(after, Sign::Comma) else {
+                return Ok((found, after));
+            };
             rest = after;
         }
         Err(Fault::Grammar)
@@ -265,52 +297,48 @@ impl Types {
         Ok((found, rest))
     }
 
-    /// `forall a.` or `C a =>`, if one of them comes.
+    /// `C a =>`
     #[cycle(types)]
-    fn prefix<'a>(&self, syms: &'a [Sym]) -> Parsed<'a, Option<TypePrefix>> {
-        if let Some(rest) = eat(syms, Sign::Forall) && comes(rest, Sign::Dot) {
-            let (vars, rest) = some_variables(self.alloc, rest)?;
-            let rest = expect(rest, Sign::Dot)?;
-            return Ok((Some(TypePrefix::Forall { vars, span: span_of(syms, rest) }), rest));
-        }
-        if !comes(syms, Sign::FatArrow) {
-            return Ok((None, syms));
-        }
+    fn given<'a>(&self, syms: &'a [Sym]) -> Parsed<'a, TypePrefix> {
         let (constraints, rest) = self.context(syms)?;
         let rest = expect(rest, Sign::FatArrow)?;
-        Ok((Some(TypePrefix::Given { constraints, span: span_of(syms, rest) }), rest))
+        Ok((TypePrefix::Given { constraints, span: span_of(syms, rest) }, rest))
     }
 
     /// What stands before the last type, and that type.
     #[cycle(types)]
-    fn parts<'a>(&self, syms: &'a [Sym]) -> Parsed<'a, (Items<TypePrefix>, TypeTree)> {
+    fn parts<'a>(&self, syms: &'a [Sym]) -> Parsed<'a, (Items<TypePrefix>, Boxed<TypeTree>)> {
         let mut found = Items::new(self.alloc);
         let mut rest = syms;
         for _turn in 0..syms.len() {
-            let (front, after) = self.prefix(rest)?;
-            if let Some(front) = front {
+            if begins_quantifier(rest) {
+                let (front, after) = quantifier(self.alloc, rest)?;
                 found.push(front)?;
                 rest = after;
-                continue;
+            } else if comes(rest, Sign::FatArrow) {
+                let (front, after) = self.given(rest)?;
+                found.push(front)?;
+                rest = after;
+            } else {
+                let (x_type, after) = self.chain(rest)?;
+                let Some(behind) = eat(after, Sign::Arrow) else {
+                    return Ok(((found, x_type), after));
+                };
+                let x_type = x_type.into_inner();
+                found.push(TypePrefix::Argument { x_type, span: span_of(rest, behind) })?;
+                rest = behind;
             }
-            let (x_type, after) = self.chain(after)?;
-            let Some(behind) = eat(after, Sign::Arrow) else {
-                return Ok(((found, x_type), after));
-            };
-            found.push(TypePrefix::Argument { x_type, span: span_of(rest, behind) })?;
-            rest = behind;
         }
         Err(Fault::Grammar)
     }
 
     #[cycle(types)]
-    fn whole<'a>(&self, syms: &'a [Sym]) -> Parsed<'a, TypeTree> {
+    fn whole<'a>(&self, syms: &'a [Sym]) -> Parsed<'a, Boxed<TypeTree>> {
         let ((prefixes, result), rest) = self.parts(syms)?;
         if prefixes.is_empty() {
             return Ok((result, rest));
         }
-        let result = Boxed::new(self.alloc, result)?;
-        Ok((TypeTree::Prefixed { prefixes, result, span: span_of(syms, rest) }, rest))
+        made(self.alloc, TypeTree::Prefixed { prefixes, result, span: span_of(syms, rest) }, rest)
     }
 }
 
@@ -319,14 +347,8 @@ fn rules(alloc: Global, syms: &[Sym]) -> Types {
 }
 
 /// A type.
-pub fn whole_type(alloc: Global, syms: &[Sym]) -> Parsed<'_, TypeTree> {
+pub fn whole_type(alloc: Global, syms: &[Sym]) -> Parsed<'_, Boxed<TypeTree>> {
     rules(alloc, syms).whole(syms)
-}
-
-/// A type, boxed as other trees hold it.
-pub fn boxed_type(alloc: Global, syms: &[Sym]) -> Parsed<'_, Boxed<TypeTree>> {
-    let (found, rest) = whole_type(alloc, syms)?;
-    Ok((Boxed::new(alloc, found)?, rest))
 }
 
 /// Arguments of a type, as many as come.
@@ -335,7 +357,7 @@ pub fn atoms(alloc: Global, syms: &[Sym]) -> Parsed<'_, Items<TypeTree>> {
 }
 
 /// An argument of a type.
-pub fn one_atom(alloc: Global, syms: &[Sym]) -> Parsed<'_, TypeTree> {
+pub fn one_atom(alloc: Global, syms: &[Sym]) -> Parsed<'_, Boxed<TypeTree>> {
     rules(alloc, syms).atom(syms)
 }
 
@@ -349,7 +371,7 @@ pub fn sig(alloc: Global, syms: &[Sym]) -> Parsed<'_, Sig> {
     let (name, rest) = ident(syms)?;
     let rest = expect(rest, Sign::DoubleColon)?;
     let (x_type, rest) = whole_type(alloc, rest)?;
-    Ok((Sig { name, x_type, span: span_of(syms, rest) }, rest))
+    Ok((Sig { name, x_type: x_type.into_inner(), span: span_of(syms, rest) }, rest))
 }
 
 /// The type that the tokens are.
@@ -357,5 +379,8 @@ pub fn sig(alloc: Global, syms: &[Sym]) -> Parsed<'_, Sig> {
 /// None exactly where they are not of the grammar. Tokens nest no deeper than the limit on items, which the caller has seen.
 pub fn parse_type(alloc: Global, toks: &[Tok]) -> Result<Option<TypeTree>, NoMemory> {
     let syms = symbols(alloc, toks)?;
-    whole(whole_type(alloc, content(syms.as_slice())))
+    match whole(whole_type(alloc, content(syms.as_slice())))? {
+        Some(found) => Ok(Some(found.into_inner())),
+        None => Ok(None),
+    }
 }

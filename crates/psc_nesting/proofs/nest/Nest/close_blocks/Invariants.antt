@@ -3,4 +3,4 @@ use Rattle.psc_nesting.specs.Nest.{state, close_blocks}
 use Rattle.psc_nesting.proofs.nest.Nest.close_blocks.Given as goal
 
 abbrev pub invariant-ends : goal.invariant-ends
-invariant-ends l = state l.self.now ≡ close_blocks l._block (state l.fn.self.old)
+invariant-ends l = state l.self ≡ close_blocks l._block (state l.fn.self)
