@@ -1,7 +1,7 @@
 //! Small types that declarations, bracketing and grouping share.
 
 use psc_items::SharedItems;
-use psc_text::{OpName, Qualified};
+use psc_text::Qualified;
 
 /// On which side an operator takes a further operator of its own power.
 #[derive(Clone, Copy, Debug, PartialEq, Eq)]
@@ -23,7 +23,9 @@ pub enum KindOf {
 /// An operator in scope: its target, side and power.
 #[derive(Debug, Drop)]
 pub struct Fixity {
-    pub op: OpName,
+    /// The operator's true name: the module that declares it, and its name. Two modules may have one of the same name.
+    pub op: Qualified,
+    /// The true name of the value, constructor or type that it stands for.
     pub target: Qualified,
     pub side: Side,
     /// From 0 to 9.

@@ -1,7 +1,7 @@
 //! Module lines, and the head of a module: its line and the imports that it begins with.
 
 use crate::cut::{Left, cut_line, first_item, next_item};
-use crate::item::{Failed, Piece, piece};
+use crate::item::{Failed, Piece, read_item};
 use crate::outside::{has_outside_form, names_builtin};
 use crate::refs::exports;
 use crate::verdict::{Wrong, error_at, refusal, wrong_of};
@@ -99,7 +99,7 @@ fn leading_imports<'a>(alloc: Global, body: &'a [Sym], found: &mut Items<ImportT
 }
 
 fn push_import(alloc: Global, item: &[Sym], found: &mut Items<ImportTree>) -> Result<(), Wrong> {
-    match piece(alloc, item)? {
+    match read_item(alloc, item)? {
         Piece::Import(import) => found.push(import.into_inner())?,
         Piece::Decl(_) => {}
     }

@@ -50,7 +50,7 @@ fn unchecked_piece(alloc: Global, item: &[Sym]) -> Result<Piece, Wrong> {
 }
 
 /// An item, wherever it stands, or the first thing that is wrong with it.
-pub fn piece(alloc: Global, item: &[Sym]) -> Result<Piece, Wrong> {
+pub fn read_item(alloc: Global, item: &[Sym]) -> Result<Piece, Wrong> {
     let found = unchecked_piece(alloc, item)?;
     in_range(alloc, item, found)
 }
