@@ -6,9 +6,9 @@
 //! has its power and its side and stands on that side.
 #![tactic(auto)]
 
-mod bracket;
+mod chain;
 
 #[cfg(test)]
 mod tests;
 
-pub use bracket::{Clash, Operator, Turn, bracket};
+pub use chain::{Clash, Operator, Turn, bracket};

@@ -1,6 +1,6 @@
 //! Chains and their trees.
 
-use crate::bracket::{Operator, Turn, bracket};
+use crate::chain::{Operator, Turn, bracket};
 use psc_ast::Side;
 use std::test::Fail;
 

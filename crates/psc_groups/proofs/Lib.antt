@@ -4,3 +4,6 @@ pub mod Enter
 pub mod Leave
 pub mod Close
 pub mod Steps
+pub mod Maps
+pub mod Order
+pub mod Groups

@@ -1,6 +1,6 @@
 //! Binders without chains.
 
-use crate::build::{Chain, reversed, tree_of};
+use crate::build::{Chain, in_order, tree_of};
 use crate::size::{Size, levels};
 use crate::state::Bracketing;
 use crate::types::x_type;
@@ -86,9 +86,8 @@ pub(crate) fn binders_behind(
     fuel: u32,
     size: &mut Size,
 ) -> Result<Items<BinderTree>, NoMemory> {
-    let mut list = reversed(state.alloc, binders)?;
     let mut done = Items::new(state.alloc);
-    while let Some(next) = list.pop() {
+    for next in in_order(state.alloc, binders)? {
         let mut inside = Size::NONE;
         let next = binder(state, next, fuel, &mut inside)?;
         done.push(next)?;
@@ -105,10 +104,9 @@ fn binders_beside(
     fuel: u32,
     size: &mut Size,
 ) -> Result<Items<BinderTree>, NoMemory> {
-    let mut list = reversed(state.alloc, binders)?;
     let mut done = Items::new(state.alloc);
     let mut all = Size::NONE;
-    while let Some(next) = list.pop() {
+    for next in in_order(state.alloc, binders)? {
         let mut inside = Size::NONE;
         let next = binder(state, next, fuel, &mut inside)?;
         done.push(next)?;
@@ -126,10 +124,9 @@ fn record(
     fuel: u32,
     size: &mut Size,
 ) -> Result<BinderTree, NoMemory> {
-    let mut list = reversed(state.alloc, fields)?;
     let mut done = Items::new(state.alloc);
     let mut all = Size::NONE;
-    while let Some(BinderField { label, value }) = list.pop() {
+    for BinderField { label, value } in in_order(state.alloc, fields)? {
         let mut inside = Size::NONE;
         let value = match value {
             Some(value) => Some(boxed(state, value, fuel, &mut inside)?),
@@ -157,8 +154,7 @@ fn chain(
     let mut inside = Size::NONE;
     operands.push(binder(state, first.into_inner(), fuel, &mut inside)?)?;
     sizes.push(inside)?;
-    let mut list = reversed(state.alloc, rest)?;
-    while let Some(BinderStep { op, operand }) = list.pop() {
+    for BinderStep { op, operand } in in_order(state.alloc, rest)? {
         let mut inside = Size::NONE;
         operands.push(binder(state, operand, fuel, &mut inside)?)?;
         sizes.push(inside)?;

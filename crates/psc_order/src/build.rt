@@ -182,12 +182,15 @@ fn join<T: Joins>(alloc: Global, left: Piece<T>, right: Piece<T>, target: &Menti
     })
 }
 
-/// The elements of a list, the last one first, so that `pop` gives them in their order.
-pub(crate) fn reversed<T: Drop>(alloc: Global, items: Items<T>) -> Result<Vec<T>, NoMemory> {
+/// The elements of a list, in their order.
+pub(crate) fn in_order<T: Drop>(alloc: Global, items: Items<T>) -> Result<Vec<T>, NoMemory> {
     let mut items = items;
     let mut list = Vec::new(alloc);
-    while let Some(item) = items.pop() {
-        list.push(item)?;
+    for _ in 0..items.len() {
+        if let Some(item) = items.pop() {
+            list.push(item)?;
+        }
     }
+    list.reverse();
     Ok(list)
 }

@@ -1,21 +1,17 @@
-//! Operators become trees, and declarations become groups.
+//! Operators become trees.
 //!
-//! Input: a module whose names are resolved, with the operators in scope. Output: the same module without chains, each
-//! operator's target in its place; or for mentions by number the groups in their order.
-//! Chains follow the rule of right trees, groups the rule of the earliest ready declaration.
+//! Input: a module whose names are resolved, with the operators that it mentions. Output: the same module without chains,
+//! each operator's target in its place, or the one error of its operators.
+//! Chains follow the rule of right trees. A type or an expression that a bracket holds is a tree of its own.
 #![tactic(auto)]
 
 mod binders;
+mod binds;
 mod build;
 mod exprs;
-mod groups;
-mod module;
+mod items;
 mod size;
 mod state;
 mod types;
 
-#[cfg(test)]
-mod tests;
-
-pub use groups::binding_groups;
-pub use module::rebracket;
+pub use items::rebracket;

@@ -62,18 +62,15 @@ impl Bracketing {
         })
     }
 
-    /// The operator that a mention names.
-    pub(crate) fn known(&self, mention: &Mention, of_types: bool) -> Option<&Known> {
-        if of_types {
-            self.types.get(&mention.name.name)
-        } else {
-            self.values.get(&mention.name.name)
-        }
+    /// The operator that a mention names, by its true name.
+    pub(crate) fn known(&self, mention: &Mention, of_types: bool) -> Result<Option<&Known>, NoMemory> {
+        let name = true_name(self.alloc, mention)?;
+        Ok(if of_types { self.types.get(&name) } else { self.values.get(&name) })
     }
 
     /// The mention of an operator's target in the place of the operator. An operator that is not known stands for itself.
     pub(crate) fn target(&self, mention: &Mention, of_types: bool) -> Result<Mention, NoMemory> {
-        let name = match self.known(mention, of_types) {
+        let name = match self.known(mention, of_types)? {
             Some(known) => known.target.clone()?,
             None => mention.name.clone()?,
         };
@@ -87,7 +84,7 @@ impl Bracketing {
     pub(crate) fn operators(&self, mentions: &[Mention], of_types: bool) -> Result<Vec<Operator>, NoMemory> {
         let mut operators = Vec::new(self.alloc);
         for mention in mentions {
-            operators.push(match self.known(mention, of_types) {
+            operators.push(match self.known(mention, of_types)? {
                 Some(known) => known.operator,
                 None => TIGHTEST,
             })?;
@@ -131,5 +128,17 @@ fn is_infix(operators: &[Operator], at: usize) -> bool {
     match operators.get(at) {
         Some(operator) => matches!(operator.side, Side::Neither),
         None => false,
+    }
+}
+
+/// The module of an operator, a dot and the operator as one text.
+fn true_name(alloc: Global, mention: &Mention) -> Result<Text, NoMemory> {
+    match &mention.name.module {
+        Some(module) => {
+            let (before, behind) = (module.as_str(), mention.name.name.as_str());
+            let text = format!(in alloc; "{before}.{behind}")?;
+            Text::new(alloc, text.as_str())
+        }
+        None => Ok(mention.name.name.clone()?),
     }
 }

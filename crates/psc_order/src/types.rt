@@ -1,6 +1,6 @@
 //! Types without chains.
 
-use crate::build::{Chain, reversed, tree_of};
+use crate::build::{Chain, in_order, tree_of};
 use crate::size::{Size, levels};
 use crate::state::Bracketing;
 use psc_ast::{Constr, KindTree, RowField, RowTree, Sig, TypePrefix, TypeStep, TypeTree, TypeVar};
@@ -62,9 +62,8 @@ fn boxed(state: &mut Bracketing, tree: Boxed<TypeTree>, fuel: u32, size: &mut Si
 /// Types behind one another, each under as many levels more as there are up to it.
 #[cycle(types)]
 fn type_arguments(state: &mut Bracketing, arguments: Items<TypeTree>, fuel: u32, size: &mut Size) -> Result<Items<TypeTree>, NoMemory> {
-    let mut list = reversed(state.alloc, arguments)?;
     let mut done = Items::new(state.alloc);
-    while let Some(argument) = list.pop() {
+    for argument in in_order(state.alloc, arguments)? {
         let mut inside = Size::NONE;
         let argument = x_type(state, argument, fuel, &mut inside)?;
         done.push(argument)?;
@@ -88,8 +87,7 @@ fn chain(
     let mut inside = Size::NONE;
     operands.push(x_type(state, first.into_inner(), fuel, &mut inside)?)?;
     sizes.push(inside)?;
-    let mut list = reversed(state.alloc, rest)?;
-    while let Some(TypeStep { op, operand }) = list.pop() {
+    for TypeStep { op, operand } in in_order(state.alloc, rest)? {
         let mut inside = Size::NONE;
         operands.push(x_type(state, operand, fuel, &mut inside)?)?;
         sizes.push(inside)?;
@@ -107,10 +105,9 @@ fn prefixed(
     fuel: u32,
     size: &mut Size,
 ) -> Result<TypeTree, NoMemory> {
-    let mut list = reversed(state.alloc, prefixes)?;
     let mut done = Items::new(state.alloc);
     let mut depth: u32 = 0;
-    while let Some(next) = list.pop() {
+    for next in in_order(state.alloc, prefixes)? {
         let mut inside = Size::NONE;
         let (next, more) = prefix(state, next, fuel, &mut inside)?;
         depth = depth.saturating_add(more);
@@ -155,10 +152,9 @@ pub(crate) fn constraint_list(
     fuel: u32,
     size: &mut Size,
 ) -> Result<Items<Constr>, NoMemory> {
-    let mut list = reversed(state.alloc, constraints)?;
     let mut done = Items::new(state.alloc);
     let mut all = Size::NONE;
-    while let Some(Constr { class, arguments, span }) = list.pop() {
+    for Constr { class, arguments, span } in in_order(state.alloc, constraints)? {
         let mut inside = Size::NONE;
         let arguments = type_arguments(state, arguments, fuel, &mut inside)?;
         all = all.beside(inside);
@@ -171,11 +167,10 @@ pub(crate) fn constraint_list(
 #[cycle(types)]
 fn row(state: &mut Bracketing, row: RowTree, fuel: u32, size: &mut Size) -> Result<RowTree, NoMemory> {
     let RowTree { fields, tail } = row;
-    let mut list = reversed(state.alloc, fields)?;
     let mut done = Items::new(state.alloc);
     let mut all = Size::NONE;
     let mut last = Size::NONE;
-    while let Some(RowField { label, x_type: field }) = list.pop() {
+    for RowField { label, x_type: field } in in_order(state.alloc, fields)? {
         all = all.beside(last);
         last = Size::NONE;
         let field = x_type(state, field, fuel, &mut last)?;

@@ -17,4 +17,4 @@ loop-declaration-preserved c = record {
 }
 
 pub returns : goal.returns
-returns c = numbering _ _ _ c.loop-declaration.invariant.walk c.loop-declaration.invariant.idle (search rules) _ (search rules)
+returns c = numbering _ _ c.loop-declaration.invariant.walk c.loop-declaration.invariant.idle (search rules) _ (search rules)

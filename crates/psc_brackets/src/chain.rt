@@ -1,5 +1,9 @@
 //! From a chain to its tree, by a stack of the operators that still wait for their right operand.
 
+ghost use Rattle.std.specs.Prelude.{◌≡◌, ◌<◌, ◌++◌, [], ◌∷◌, length, IfOk, OnOk, MatchOption, MatchResult};
+ghost use Rattle.psc_brackets.specs.Right.{IsTheWalk, IsTheClash};
+ghost use Rattle.psc_brackets.specs.Stack.{HoldsTree, HoldsLeft, Settles, IsBond, IsBondAt};
+
 use psc_ast::Side;
 use psc_text::NoMemory;
 use std::alloc::Global;
@@ -30,13 +34,15 @@ pub struct Clash {
 
 /// Which of two operators binds tighter, where only tighter ones stand between them.
 #[derive(Clone, Copy, Debug, PartialEq, Eq)]
-enum Bond {
+pub(crate) enum Bond {
     Earlier,
     Later,
     Neither,
 }
 
-fn bond(earlier: Operator, later: Operator) -> Bond {
+fn bond_of(earlier: Operator, later: Operator) -> Bond
+    ensures { IsBond result earlier later }
+{
     if earlier.power > later.power {
         return Bond::Earlier;
     }
@@ -59,7 +65,9 @@ fn bond(earlier: Operator, later: Operator) -> Bond {
 /// The walk through the right tree over a chain of operators, between which its operands stand.
 ///
 /// Where no tree is right, the first operator that an earlier one clashes with, and that one.
-pub fn bracket(alloc: Global, operators: &[Operator]) -> Result<Result<Vec<Turn>, Clash>, NoMemory> {
+pub fn bracket(alloc: Global, operators: &[Operator]) -> Result<Result<Vec<Turn>, Clash>, NoMemory>
+    ensures { IfOk result (λ answer. MatchResult answer (λ turns. IsTheWalk operators.now turns.items) (λ clash. IsTheClash operators.now clash)) }
+{
     let mut turns = Vec::new(alloc);
     let mut pending = Vec::new(alloc);
     for later in 0..operators.len() {
@@ -70,9 +78,7 @@ pub fn bracket(alloc: Global, operators: &[Operator]) -> Result<Result<Vec<Turn>
         pending.push(later)?;
     }
     turns.push(Turn::Operand(operators.len()))?;
-    while let Some(operator) = pending.pop() {
-        turns.push(Turn::Operator(operator))?;
-    }
+    finish(operators, &mut pending, &mut turns)?;
     Ok(Ok(turns))
 }
 
@@ -82,8 +88,12 @@ fn settle(
     pending: &mut Vec<usize>,
     turns: &mut Vec<Turn>,
     later: usize,
-) -> Result<Option<Clash>, NoMemory> {
-    while let Some(earlier) = pending.pop() {
+) -> Result<Option<Clash>, NoMemory>
+    requires within { later < length operators.now }
+    requires holds { HoldsLeft operators.now later pending.old.items turns.old.items }
+    ensures { IfOk result (λ answer. MatchOption answer (Settles operators.now later pending.new.items turns.new.items) (λ clash. IsTheClash operators.now clash)) }
+{
+    while let Some(earlier) = take_last(pending) {
         match bond_at(operators, earlier, later) {
             Bond::Earlier => turns.push(Turn::Operator(earlier))?,
             Bond::Later => {
@@ -96,12 +106,27 @@ fn settle(
     Ok(None)
 }
 
-fn bond_at(operators: &[Operator], earlier: usize, later: usize) -> Bond {
-    match operators.get(earlier) {
-        Some(first) => match operators.get(later) {
-            Some(second) => bond(*first, *second),
-            None => Bond::Earlier,
-        },
-        None => Bond::Earlier,
+/// Ends all pending operators.
+fn finish(operators: &[Operator], pending: &mut Vec<usize>, turns: &mut Vec<Turn>) -> Result<(), NoMemory>
+    requires { HoldsTree operators.now (length operators.now) pending.old.items turns.old.items }
+    ensures { OnOk result (IsTheWalk operators.now turns.new.items) }
+{
+    while let Some(operator) = take_last(pending) {
+        turns.push(Turn::Operator(operator))?;
     }
+    Ok(())
+}
+
+fn bond_at(operators: &[Operator], earlier: usize, later: usize) -> Bond
+    requires earlier_within { earlier < length operators.now }
+    requires later_within { later < length operators.now }
+    ensures { IsBondAt operators.now result earlier later }
+{
+    bond_of(operators[earlier], operators[later])
+}
+
+fn take_last(items: &mut Vec<usize>) -> Option<usize>
+    ensures { MatchOption result ((items.old.items ≡ []) × (items.new.items ≡ [])) (λ last. items.old.items ≡ items.new.items ++ last ∷ []) }
+{
+    items.pop()
 }
