@@ -4,7 +4,6 @@ ghost use Rattle.std.specs.Prelude.{◌≡◌, ◌++◌, IfOk, map};
 ghost use Rattle.std.specs.String.{string_bytes};
 ghost use Rattle.psc_js.specs.Expr as spec;
 ghost use Rattle.psc_js.specs.Literal.{separated, joined};
-ghost use Rattle.psc_js.specs.Place as places;
 
 use crate::append::{put, put_comma, put_integer, put_label, put_name, put_string, put_truth};
 use crate::place::{put_field_of, put_subject, put_tests, put_variables};

@@ -13,11 +13,11 @@ use psc_text::{ModuleName, NoMemory, Text};
 use std::alloc::Global;
 
 /// The JavaScript text of a module: its lines, each with a line end. Names stand as the tree has them.
-pub fn js_text(alloc: Global, module: &JsModule) -> Result<Text, NoMemory>
-    ensures { IfOk result (λ text. text ≡ spec.js_text module.now) }
+pub fn js_text(alloc: Global, tree: &JsModule) -> Result<Text, NoMemory>
+    ensures { IfOk result (λ text. text ≡ spec.js_text tree.now) }
 {
     let mut out = String::new(alloc);
-    put_lines(alloc, &mut out, module.lines.as_slice())?;
+    put_lines(alloc, &mut out, tree.lines.as_slice())?;
     Text::from_string(out)
 }
 
@@ -44,19 +44,19 @@ fn put_line(alloc: Global, out: &mut String, line: &JsLine) -> Result<(), NoMemo
     }
 }
 
-fn put_import(out: &mut String, alias: &Text, module: &ModuleName) -> Result<(), NoMemory>
-    ensures { IfOk result (λ _. string_bytes out.new ≡ string_bytes out.old ++ spec.import alias.now module.now) }
+fn put_import(out: &mut String, alias: &Text, name: &ModuleName) -> Result<(), NoMemory>
+    ensures { IfOk result (λ _. string_bytes out.new ≡ string_bytes out.old ++ spec.import alias.now name.now) }
 {
     put(out, "import * as ")?;
     put_name(out, alias)?;
-    put_from(out, module)
+    put_from(out, name)
 }
 
-fn put_from(out: &mut String, module: &ModuleName) -> Result<(), NoMemory>
-    ensures { IfOk result (λ _. string_bytes out.new ≡ string_bytes out.old ++ spec.from module.now) }
+fn put_from(out: &mut String, name: &ModuleName) -> Result<(), NoMemory>
+    ensures { IfOk result (λ _. string_bytes out.new ≡ string_bytes out.old ++ spec.from name.now) }
 {
     put(out, " from \"../")?;
-    put_module_name(out, module)?;
+    put_module_name(out, name)?;
     put(out, "/index.js\";\n")
 }
 
@@ -119,9 +119,9 @@ fn put_names(out: &mut String, names: &[Text]) -> Result<(), NoMemory>
     Ok(())
 }
 
-fn put_export_from(out: &mut String, names: &[Text], module: &ModuleName) -> Result<(), NoMemory>
-    ensures { IfOk result (λ _. string_bytes out.new ≡ string_bytes out.old ++ spec.export_from names.now module.now) }
+fn put_export_from(out: &mut String, names: &[Text], name: &ModuleName) -> Result<(), NoMemory>
+    ensures { IfOk result (λ _. string_bytes out.new ≡ string_bytes out.old ++ spec.export_from names.now name.now) }
 {
     put_exported(out, names)?;
-    put_from(out, module)
+    put_from(out, name)
 }

@@ -1,6 +1,6 @@
 //! The characters of a name.
 
-ghost use Rattle.std.specs.Prelude.{◌≡◌, ◌++◌, IfOk, chars};
+ghost use Rattle.std.specs.Prelude.{◌≡◌, ◌++◌, IfOk, chars, false};
 ghost use Rattle.std.specs.Fmt.{digits};
 ghost use Rattle.std.specs.String.{string_bytes};
 ghost use Rattle.psc_js_names.specs.Names as spec;
@@ -9,7 +9,7 @@ use psc_text::NoMemory;
 use std::alloc::Global;
 
 /// Appends a text as it is.
-pub fn put(out: &mut String, text: &str) -> Result<(), NoMemory>
+pub(crate) fn put(out: &mut String, text: &str) -> Result<(), NoMemory>
     ensures { IfOk result (λ _. string_bytes out.new ≡ string_bytes out.old ++ text.now) }
 {
     Ok(out.push_str(text)?)

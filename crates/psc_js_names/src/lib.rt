@@ -6,9 +6,12 @@
 //! with `$` behind it. These are this project's own rules.
 #![tactic(auto)]
 
+mod laws;
 mod letters;
-mod printed;
+mod names;
 mod reserved;
 
-pub use letters::put;
-pub use printed::{add_name, alias, local, printed};
+pub use laws::{
+    aliases_print_apart, local_is_no_name_at_the_top, locals_print_apart, names_print_apart,
+};
+pub use names::{add_name, alias, local, printed};

@@ -55,14 +55,14 @@ array_tests bs p = HasLength p (length bs) ∷ elements_from 0 bs p
 abbrev pub Tests : Type 0
 Tests = JsPlace → List JsTest
 
-abbrev pub binder_tests : CoreBinder-F Tests Tests Tests → Tests
+abbrev pub binder_tests : CoreBinder-F Tests Tests Tests → JsPlace → List JsTest
 binder_tests (CoreBinder-F.Null a) p = []
 binder_tests (CoreBinder-F.Literal a v) p = v p
 binder_tests (CoreBinder-F.Var a x) p = []
 binder_tests (CoreBinder-F.Constructor a t c bs) p = data_tests (is_newtype a.meta) c.name bs p
 binder_tests (CoreBinder-F.Named a x b) p = b p
 
-abbrev pub tests_of_literal : BinderLiteral-F Tests Tests Tests → Tests
+abbrev pub tests_of_literal : BinderLiteral-F Tests Tests Tests → JsPlace → List JsTest
 tests_of_literal (BinderLiteral-F.Int n) p = IsInteger p n ∷ []
 tests_of_literal (BinderLiteral-F.Str s) p = IsText p s ∷ []
 tests_of_literal (BinderLiteral-F.Char c) p = IsText p (encode_utf8 c) ∷ []
@@ -70,7 +70,7 @@ tests_of_literal (BinderLiteral-F.Bool b) p = IsTruth p b ∷ []
 tests_of_literal (BinderLiteral-F.Array bs) p = array_tests bs p
 tests_of_literal (BinderLiteral-F.Object fs) p = here fs p
 
-abbrev pub tests_of_field : BinderField-F Tests Tests Tests → Tests
+abbrev pub tests_of_field : BinderField-F Tests Tests Tests → JsPlace → List JsTest
 tests_of_field f p = f.value (field_at f.label p)
 
 abbrev pub tests : CoreBinder → Tests
@@ -92,14 +92,14 @@ data_variables newtype bs p = if newtype then here bs p else parts_from 0 bs p
 abbrev pub Variables : Type 0
 Variables = JsPlace → List JsPlaced
 
-abbrev pub binder_variables : Scope → CoreBinder-F Variables Variables Variables → Variables
+abbrev pub binder_variables : Scope → CoreBinder-F Variables Variables Variables → JsPlace → List JsPlaced
 binder_variables s (CoreBinder-F.Null a) p = []
 binder_variables s (CoreBinder-F.Literal a v) p = v p
 binder_variables s (CoreBinder-F.Var a x) p = placed s x p ∷ []
 binder_variables s (CoreBinder-F.Constructor a t c bs) p = data_variables (is_newtype a.meta) bs p
 binder_variables s (CoreBinder-F.Named a x b) p = placed s x p ∷ b p
 
-abbrev pub variables_of_literal : BinderLiteral-F Variables Variables Variables → Variables
+abbrev pub variables_of_literal : BinderLiteral-F Variables Variables Variables → JsPlace → List JsPlaced
 variables_of_literal (BinderLiteral-F.Int n) p = []
 variables_of_literal (BinderLiteral-F.Str s) p = []
 variables_of_literal (BinderLiteral-F.Char c) p = []
@@ -107,7 +107,7 @@ variables_of_literal (BinderLiteral-F.Bool b) p = []
 variables_of_literal (BinderLiteral-F.Array bs) p = elements_from 0 bs p
 variables_of_literal (BinderLiteral-F.Object fs) p = here fs p
 
-abbrev pub variables_of_field : BinderField-F Variables Variables Variables → Variables
+abbrev pub variables_of_field : BinderField-F Variables Variables Variables → JsPlace → List JsPlaced
 variables_of_field f p = f.value (field_at f.label p)
 
 abbrev pub variables : Scope → CoreBinder → Variables

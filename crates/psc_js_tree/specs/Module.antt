@@ -1,6 +1,7 @@
 -- Modules: their lines.
 use Rattle.std.specs.Prelude.{ℕ, List, [], ◌∷◌, ◌++◌, map}
 use Rattle.psc_text.specs.declared.names.Ident.{Ident}
+use Rattle.psc_core.specs.declared.expr.CoreBind.{CoreBind}
 use Rattle.psc_core.specs.declared.module.CoreModule.{CoreModule}
 use Rattle.psc_core.specs.declared.module.ReExport.{ReExport}
 use Rattle.psc_js_names.specs.Names.{printed, alias}
@@ -37,10 +38,14 @@ export_lines (x ∷ xs) = Export (x ∷ xs) ∷ []
 abbrev pub re_export : ReExport → JsLine
 re_export r = ExportFrom r.names r.module
 
-unfoldable pub lines : Scope → CoreModule → List JsLine
-lines s m =
-    map import m.imports ++ foreign_lines m.foreign ++ const_lines (map (bind s) m.decls)
-    ++ export_lines m.exports ++ map re_export m.re_exports
+unfoldable pub front : Scope → List (List ℕ) → List Ident → List CoreBind → List JsLine
+front s imports foreign decls = map import imports ++ foreign_lines foreign ++ const_lines (map (bind s) decls)
+
+unfoldable pub end : List (List ℕ) → List ReExport → List JsLine
+end exports rows = export_lines exports ++ map re_export rows
+
+abbrev pub lines : Scope → CoreModule → List JsLine
+lines s m = front s m.imports m.foreign m.decls ++ end m.exports m.re_exports
 
 abbrev pub scope_of : CoreModule → Scope
 scope_of m = record { own = m.name; is_top = is_top m }

@@ -26,9 +26,12 @@ unfoldable pub all_names : List (List (List ℕ)) → List (List ℕ)
 all_names [] = []
 all_names (xs ∷ rest) = xs ++ all_names rest
 
+abbrev pub ident_text : Ident → List ℕ
+ident_text x = x.0
+
 -- what a module binds, and its foreign values
 abbrev pub top_names : CoreModule → List (List ℕ)
-top_names m = all_names (map names_of m.decls) ++ map (λ x. x.0) m.foreign
+top_names m = all_names (map names_of m.decls) ++ map ident_text m.foreign
 
 abbrev pub is_top : CoreModule → List ℕ → Bool
 is_top m q = list_any (λ x. bytes_eq x q) (top_names m)

@@ -2,7 +2,7 @@
 
 ghost use Rattle.std.specs.Prelude.{◌≡◌, ◌++◌, ◌∷◌, [], IfOk, map};
 ghost use Rattle.psc_js_tree.specs.Expr as spec;
-ghost use Rattle.psc_js_tree.specs.Binder as binders;
+ghost use Rattle.psc_js_tree.specs.Binder as of_binder;
 ghost use Rattle.psc_js_tree.specs.Scope.{scope, local_name};
 
 use crate::binder::{add_tests, add_variables, text_of};
@@ -218,7 +218,7 @@ fn subject(alloc: Global, number: usize) -> Result<Shared<JsPlace>, NoMemory>
 
 #[tactic(auto, unfolding(crate::specs::Expr::at_subjects))]
 fn tests_of(alloc: Global, binders: &[CoreBinder]) -> Result<Items<JsTest>, NoMemory>
-    ensures { IfOk result (λ tests. tests ≡ spec.at_subjects 0 (map binders.tests binders.now)) }
+    ensures { IfOk result (λ tests. tests ≡ spec.at_subjects 0 (map of_binder.tests binders.now)) }
 {
     let mut tests = Items::new(alloc);
     for (number, binder) in binders.iter().enumerate() {
@@ -233,7 +233,7 @@ fn variables_of(
     home: &Home,
     binders: &[CoreBinder],
 ) -> Result<Items<JsPlaced>, NoMemory>
-    ensures { IfOk result (λ variables. variables ≡ spec.at_subjects 0 (map (binders.variables (scope home.now)) binders.now)) }
+    ensures { IfOk result (λ variables. variables ≡ spec.at_subjects 0 (map (of_binder.variables (scope home.now)) binders.now)) }
 {
     let mut variables = Items::new(alloc);
     for (number, binder) in binders.iter().enumerate() {

@@ -30,23 +30,23 @@ pub(crate) fn local_ident(alloc: Global, home: &Home, name: &Ident) -> Result<Te
     local_name(alloc, home, &name.0)
 }
 
-fn is_undefined(module: &ModuleName, name: &Text) -> bool
-    ensures { result ≡ spec.is_undefined module.now name.now }
+fn is_undefined(owner: &ModuleName, name: &Text) -> bool
+    ensures { result ≡ spec.is_undefined owner.now name.now }
 {
-    module.as_str() == "Prim" && name.as_str() == "undefined"
+    owner.as_str() == "Prim" && name.as_str() == "undefined"
 }
 
 #[tactic(auto, unfolding(crate::specs::Scope::name_of))]
-fn name_of(alloc: Global, home: &Home, module: &ModuleName, name: &Text) -> Result<JsName, NoMemory>
-    ensures { IfOk result (λ js. js ≡ spec.name_of (spec.scope home.now) module.now name.now) }
+fn name_of(alloc: Global, home: &Home, owner: &ModuleName, name: &Text) -> Result<JsName, NoMemory>
+    ensures { IfOk result (λ js. js ≡ spec.name_of (spec.scope home.now) owner.now name.now) }
 {
-    if module.as_str() == home.name.as_str() {
+    if owner.as_str() == home.name.as_str() {
         Ok(JsName::Own(printed(alloc, name.as_str())?))
-    } else if is_undefined(module, name) {
+    } else if is_undefined(owner, name) {
         Ok(JsName::Undefined)
     } else {
         Ok(JsName::Imported {
-            alias: alias(alloc, module)?,
+            alias: alias(alloc, owner)?,
             name: printed(alloc, name.as_str())?,
         })
     }
@@ -59,6 +59,6 @@ pub(crate) fn used(alloc: Global, home: &Home, name: &Qualified) -> Result<JsNam
 {
     match &name.module {
         None => Ok(JsName::Own(local_name(alloc, home, &name.name)?)),
-        Some(module) => name_of(alloc, home, module, &name.name),
+        Some(owner) => name_of(alloc, home, owner, &name.name),
     }
 }

@@ -1,7 +1,7 @@
 //! Modules: their lines, in order.
 
 ghost use Rattle.std.specs.Prelude.{◌≡◌, ◌++◌, ◌∷◌, [], IfOk, map};
-ghost use Rattle.psc_js_tree.specs.Expr.{binding, bind};
+ghost use Rattle.psc_js_tree.specs.Expr as exprs;
 ghost use Rattle.psc_js_tree.specs.Module as spec;
 ghost use Rattle.psc_js_tree.specs.Scope.{scope};
 
@@ -28,17 +28,57 @@ pub fn js_tree(alloc: Global, core: &CoreModule) -> Result<JsModule, NoMemory>
     Ok(JsModule { lines })
 }
 
-#[tactic(auto, unfolding(crate::specs::Module::lines))]
 fn lines_of(alloc: Global, home: &Home, core: &CoreModule) -> Result<Items<JsLine>, NoMemory>
     ensures { IfOk result (λ lines. lines ≡ spec.lines (scope home.now) core.now) }
 {
     let mut lines = Items::new(alloc);
-    add_imports(alloc, core.imports.as_slice(), &mut lines)?;
-    add_foreign(alloc, core.foreign.as_slice(), &mut lines)?;
-    add_consts(alloc, home, core.decls.as_slice(), &mut lines)?;
-    add_exports(&core.exports, &mut lines)?;
-    add_re_exports(core.re_exports.as_slice(), &mut lines)?;
+    add_front_of(alloc, home, core, &mut lines)?;
+    add_end_of(core, &mut lines)?;
     Ok(lines)
+}
+
+fn add_front_of(
+    alloc: Global,
+    home: &Home,
+    core: &CoreModule,
+    lines: &mut Items<JsLine>,
+) -> Result<(), NoMemory>
+    ensures { IfOk result (λ _. lines.new ≡ lines.old ++ spec.front (scope home.now) core.now.imports core.now.foreign core.now.decls) }
+{
+    let (imports, foreign) = (core.imports.as_slice(), core.foreign.as_slice());
+    add_front(alloc, home, imports, foreign, core.decls.as_slice(), lines)
+}
+
+fn add_front(
+    alloc: Global,
+    home: &Home,
+    imports: &[ModuleName],
+    foreign: &[Ident],
+    decls: &[CoreBind],
+    lines: &mut Items<JsLine>,
+) -> Result<(), NoMemory>
+    ensures { IfOk result (λ _. lines.new ≡ lines.old ++ spec.front (scope home.now) imports.now foreign.now decls.now) }
+{
+    add_imports(alloc, imports, lines)?;
+    add_foreign(alloc, foreign, lines)?;
+    add_consts(alloc, home, decls, lines)
+}
+
+fn add_end_of(core: &CoreModule, lines: &mut Items<JsLine>) -> Result<(), NoMemory>
+    ensures { IfOk result (λ _. lines.new ≡ lines.old ++ spec.end core.now.exports core.now.re_exports) }
+{
+    add_end(&core.exports, core.re_exports.as_slice(), lines)
+}
+
+fn add_end(
+    exports: &SharedItems<Text>,
+    rows: &[ReExport],
+    lines: &mut Items<JsLine>,
+) -> Result<(), NoMemory>
+    ensures { IfOk result (λ _. lines.new ≡ lines.old ++ spec.end exports.now rows.now) }
+{
+    add_exports(exports, lines)?;
+    add_re_exports(rows, lines)
 }
 
 fn add_imports(
@@ -54,11 +94,15 @@ fn add_imports(
     Ok(())
 }
 
-fn add_import(alloc: Global, module: &ModuleName, lines: &mut Items<JsLine>) -> Result<(), NoMemory>
-    ensures { IfOk result (λ _. lines.new ≡ lines.old ++ spec.import module.now ∷ []) }
+fn add_import(
+    alloc: Global,
+    imported: &ModuleName,
+    lines: &mut Items<JsLine>,
+) -> Result<(), NoMemory>
+    ensures { IfOk result (λ _. lines.new ≡ lines.old ++ spec.import imported.now ∷ []) }
 {
-    let alias = alias(alloc, module)?;
-    let module = module.clone()?;
+    let alias = alias(alloc, imported)?;
+    let module = imported.clone()?;
     lines.push(JsLine::Import { alias, module })?;
     Ok(())
 }
@@ -103,7 +147,7 @@ fn add_consts(
     binds: &[CoreBind],
     lines: &mut Items<JsLine>,
 ) -> Result<(), NoMemory>
-    ensures { IfOk result (λ _. lines.new ≡ lines.old ++ spec.const_lines (map (bind (scope home.now)) binds.now)) }
+    ensures { IfOk result (λ _. lines.new ≡ lines.old ++ spec.const_lines (map (exprs.bind (scope home.now)) binds.now)) }
 {
     for bind in binds {
         add_group(alloc, home, bind, lines)?;
@@ -117,7 +161,7 @@ fn add_group(
     bind: &CoreBind,
     lines: &mut Items<JsLine>,
 ) -> Result<(), NoMemory>
-    ensures { IfOk result (λ _. lines.new ≡ lines.old ++ map spec.const_line (bind (scope home.now) bind.now)) }
+    ensures { IfOk result (λ _. lines.new ≡ lines.old ++ map spec.const_line (exprs.bind (scope home.now) bind.now)) }
 {
     match bind {
         CoreBind::NonRec(binding) => add_const(alloc, home, binding, lines),
@@ -131,7 +175,7 @@ fn add_const_group(
     bindings: &[CoreBinding],
     lines: &mut Items<JsLine>,
 ) -> Result<(), NoMemory>
-    ensures { IfOk result (λ _. lines.new ≡ lines.old ++ map spec.const_line (map (binding (scope home.now)) bindings.now)) }
+    ensures { IfOk result (λ _. lines.new ≡ lines.old ++ map spec.const_line (map (exprs.binding (scope home.now)) bindings.now)) }
 {
     for binding in bindings {
         add_const(alloc, home, binding, lines)?;
@@ -145,7 +189,7 @@ fn add_const(
     binding: &CoreBinding,
     lines: &mut Items<JsLine>,
 ) -> Result<(), NoMemory>
-    ensures { IfOk result (λ _. lines.new ≡ lines.old ++ spec.const_line (binding (scope home.now) binding.now) ∷ []) }
+    ensures { IfOk result (λ _. lines.new ≡ lines.old ++ spec.const_line (exprs.binding (scope home.now) binding.now) ∷ []) }
 {
     let name = printed(alloc, binding.name.0.as_str())?;
     let value = js_expr(alloc, home, &binding.body)?;

@@ -57,7 +57,7 @@ fn add_binds(names: &mut Items<Text>, binds: &[CoreBind]) -> Result<(), NoMemory
 }
 
 fn add_idents(names: &mut Items<Text>, idents: &[Ident]) -> Result<(), NoMemory>
-    ensures { IfOk result (λ _. names.new ≡ names.old ++ map (λ x. x.0) idents.now) }
+    ensures { IfOk result (λ _. names.new ≡ names.old ++ map spec.ident_text idents.now) }
 {
     for ident in idents {
         add_text(names, ident)?;

@@ -3,4 +3,4 @@ use Rattle.psc_js_tree.specs.Top as spec
 use Rattle.psc_js_tree.proofs.top.add_idents.Given as goal
 
 abbrev pub invariant-loop-ident : goal.invariant-loop-ident
-invariant-loop-ident l = l.names ++ map (λ x. x.0) (drop l.ident-index l.idents) ≡ l.initial.names ++ map (λ x. x.0) l.idents
+invariant-loop-ident l = l.names ++ map spec.ident_text (drop l.ident-index l.idents) ≡ l.initial.names ++ map spec.ident_text l.idents

@@ -3,7 +3,7 @@ use Rattle.std.specs.Ordering.{nat_cmp}
 use Rattle.std.specs.Cmp.Lexicographic.{slice_cmp}
 use Rattle.std.specs.BTreeSet.{contains}
 use Rattle.psc_js_names.proofs.Tops.{holds_more}
-use Rattle.psc_js_names.proofs.printed.add_name.Goals as goal
+use Rattle.psc_js_names.proofs.names.add_name.Goals as goal
 
 pub returns : goal.returns
 returns c = λ q.

@@ -1,6 +1,6 @@
 //! Whole names.
 
-ghost use Rattle.std.specs.Prelude.{◌≡◌, ◌++◌, ◌||◌, IfOk, OnOk, List, ℕ, bytes_eq, map};
+ghost use Rattle.std.specs.Prelude.{◌≡◌, ◌++◌, ◌||◌, ◌==◌, IfOk, OnOk, List, ℕ, bytes_eq, map};
 ghost use Rattle.std.specs.List.{slice_split};
 ghost use Rattle.std.specs.String.{string_bytes};
 ghost use Rattle.std.specs.Ordering.{nat_cmp};
@@ -11,7 +11,7 @@ ghost use Rattle.psc_js_names.specs.Names as spec;
 use crate::letters::{put, put_letters};
 use crate::reserved::is_reserved;
 use psc_text::{ModuleName, NoMemory, Text};
-use std::alloc::Global;
+use std::alloc::{AllocError, Global};
 use std::collections::BTreeSet;
 
 #[tactic(auto, unfolding(crate::specs::Names::mark))]
@@ -73,10 +73,10 @@ fn put_part(alloc: Global, out: &mut String, part: &str) -> Result<(), NoMemory>
     put(out, "$")
 }
 
-fn parts_of<'a>(alloc: Global, name: &'a str) -> Result<Vec<&'a str>, NoMemory>
+fn parts_of(alloc: Global, name: &str) -> Result<Vec<&str>, AllocError>
     ensures { IfOk result (λ v. map (λ x. x.now) v.items ≡ slice_split (λ b. b == 46) name.now) }
 {
-    Ok(name.split('.').collect(alloc)?)
+    name.split('.').collect(alloc)
 }
 
 #[tactic(auto, unfolding(crate::specs::Names::parts))]
