@@ -1,7 +1,7 @@
 //! The text of a module, whole, against texts that were written by hand.
 
 use crate::corefn_text;
-use crate::tests::trees::{HERE, Trees};
+use crate::tests::trees::{HERE, Lists, Trees};
 use psc_core::{Ann, CoreBind, CoreBinding, CoreExpr, CoreModule, Literal, ReExport};
 use psc_items::SharedItems;
 use psc_text::{Ident, ModuleName, NoMemory, Span, Text};
@@ -16,25 +16,31 @@ fn span(line: u32, column: u32, end_line: u32, end_column: u32) -> Span {
     }
 }
 
-fn one_module(t: Trees) -> Result<CoreModule, NoMemory> {
+fn one_binding(t: Trees) -> Result<CoreBind, NoMemory> {
     let body = CoreExpr::Literal {
         ann: Ann::plain(span(2, 5, 2, 6)),
         value: Literal::Int(1),
     };
-    let binding = CoreBinding {
+    Ok(CoreBind::NonRec(CoreBinding {
         ann: Ann::plain(span(2, 1, 2, 6)),
         name: t.ident("x")?,
         body,
-    };
-    Ok(CoreModule {
-        name: t.module("M")?,
-        span: span(1, 1, 2, 6),
+    }))
+}
+
+fn one_export(t: Trees) -> Result<Lists, NoMemory> {
+    Ok(Lists {
         imports: t.shared([])?,
         exports: t.shared([t.text("x")?])?,
         re_exports: t.shared([])?,
         foreign: t.shared([])?,
-        decls: t.items([CoreBind::NonRec(binding)])?,
     })
+}
+
+fn one_module(t: Trees) -> Result<CoreModule, NoMemory> {
+    let decls = t.items([one_binding(t)?])?;
+    let lists = one_export(t)?;
+    t.module_with("M", span(1, 1, 2, 6), lists, decls)
 }
 
 /// `module M where` and `x = 1`.
@@ -50,15 +56,8 @@ fn the_text_of_a_module_of_one_line(rt: HostRuntime) -> Result<(), Fail> {
 }
 
 fn empty_module(t: Trees) -> Result<CoreModule, NoMemory> {
-    Ok(CoreModule {
-        name: t.module("Data.List.Ä")?,
-        span: HERE,
-        imports: t.shared([])?,
-        exports: t.shared([])?,
-        re_exports: t.shared([])?,
-        foreign: t.shared([])?,
-        decls: t.items([])?,
-    })
+    let lists = t.no_lists()?;
+    t.module_with("Data.List.Ä", HERE, lists, t.items([])?)
 }
 
 #[test]
@@ -96,17 +95,24 @@ fn foreign(t: Trees) -> Result<SharedItems<Ident>, NoMemory> {
     t.shared([t.ident("f'")?, t.ident("größe")?])
 }
 
-fn whole_module(t: Trees) -> Result<CoreModule, NoMemory> {
-    let pair = t.items([t.binding("a'", t.int(1))?, t.binding("new", t.int(2))?])?;
-    Ok(CoreModule {
-        name: t.module("M")?,
-        span: HERE,
+fn whole_lists(t: Trees) -> Result<Lists, NoMemory> {
+    Ok(Lists {
         imports: imports(t)?,
         exports: exports(t)?,
         re_exports: re_exports(t)?,
         foreign: foreign(t)?,
-        decls: t.items([t.bind("b", t.int(0))?, CoreBind::Rec(pair)])?,
     })
+}
+
+fn pair(t: Trees) -> Result<CoreBind, NoMemory> {
+    let bindings = t.items([t.binding("a'", t.int(1))?, t.binding("new", t.int(2))?])?;
+    Ok(CoreBind::Rec(bindings))
+}
+
+fn whole_module(t: Trees) -> Result<CoreModule, NoMemory> {
+    let decls = t.items([t.bind("b", t.int(0))?, pair(t)?])?;
+    let lists = whole_lists(t)?;
+    t.module_with("M", HERE, lists, decls)
 }
 
 #[test]

@@ -2,7 +2,7 @@
 
 use psc_core::{
     Ann, BinderLiteral, CoreAlternative, CoreBind, CoreBinder, CoreBinding, CoreExpr, CoreGuarded,
-    CoreModule, CoreOutcome, Field, Literal, Meta,
+    CoreModule, CoreOutcome, Field, Literal, Meta, ReExport,
 };
 use psc_items::SharedItems;
 use psc_text::{Ident, Label, ModuleName, NoMemory, Qualified, Span, Text, read_module_name};
@@ -16,6 +16,15 @@ pub const HERE: Span = Span {
     end_line: 3,
     end_column: 4,
 };
+
+/// The lists that a module has beside its bindings.
+#[derive(Drop)]
+pub struct Lists {
+    pub imports: SharedItems<ModuleName>,
+    pub exports: SharedItems<Text>,
+    pub re_exports: SharedItems<ReExport>,
+    pub foreign: SharedItems<Ident>,
+}
 
 /// What builds trees.
 #[derive(Clone, Copy)]
@@ -190,16 +199,39 @@ impl Trees {
         })
     }
 
-    /// The module `M` of one binding of `v`.
-    pub fn module_of(self, value: CoreExpr) -> Result<CoreModule, NoMemory> {
-        Ok(CoreModule {
-            name: self.module("M")?,
-            span: HERE,
+    /// The lists of a module that has nothing in them.
+    pub fn no_lists(self) -> Result<Lists, NoMemory> {
+        Ok(Lists {
             imports: self.shared([])?,
             exports: self.shared([])?,
             re_exports: self.shared([])?,
             foreign: self.shared([])?,
-            decls: self.items([self.bind("v", value)?])?,
         })
+    }
+
+    /// The module of this name and place with these lists and bindings.
+    pub fn module_with(
+        self,
+        name: &str,
+        span: Span,
+        lists: Lists,
+        decls: Items<CoreBind>,
+    ) -> Result<CoreModule, NoMemory> {
+        Ok(CoreModule {
+            name: self.module(name)?,
+            span,
+            imports: lists.imports,
+            exports: lists.exports,
+            re_exports: lists.re_exports,
+            foreign: lists.foreign,
+            decls,
+        })
+    }
+
+    /// The module `M` of one binding of `v`.
+    pub fn module_of(self, value: CoreExpr) -> Result<CoreModule, NoMemory> {
+        let decls = self.items([self.bind("v", value)?])?;
+        let lists = self.no_lists()?;
+        self.module_with("M", HERE, lists, decls)
     }
 }
