@@ -50,9 +50,9 @@ cut (x ∷ xs) a ys (z ∷ zs) b ws e =
     let h : x ≡ z = cc in
     let t : xs ++ a ∷ ys ≡ zs ++ b ∷ ws = cc in
     elim (cut xs a ys zs b ws t) [
-      | Same p q r ↦ Same cc q r
-      | Before m p q ↦ Before m cc q
-      | Behind m p q ↦ Behind m cc q
+      | Same p q r ↦ (let s : x ∷ xs ≡ z ∷ zs = cc in Same s q r)
+      | Before m p q ↦ (let s : z ∷ zs ≡ x ∷ (xs ++ a ∷ m) = cc in Before m s q)
+      | Behind m p q ↦ (let s : x ∷ xs ≡ z ∷ (zs ++ b ∷ m) = cc in Behind m s q)
     ]
 
 never_both : (a b : Operator) → MayStand side.Left a b → MayStand side.Right b a → ⊥
@@ -88,12 +88,12 @@ tighter_at [] x ys than a = a.0
 tighter_at (z ∷ xs) x ys than a = tighter_at xs x ys than a.1
 
 same_power_left : (a b : Operator) → MayStand side.Left a b → a.power ≡ b.power → (a.side ≡ side.Left → b.side ≡ side.Left → ⊥) → ⊥
-same_power_left a b (Tighter p) e no = omega arith
-same_power_left a b (Alike p s t) e no = no s t
+same_power_left a b (Tighter p) e never = omega arith
+same_power_left a b (Alike p s t) e never = never s t
 
 same_power_right : (a b : Operator) → MayStand side.Right b a → a.power ≡ b.power → (a.side ≡ side.Right → b.side ≡ side.Right → ⊥) → ⊥
-same_power_right a b (Tighter p) e no = omega arith
-same_power_right a b (Alike p s t) e no = no t s
+same_power_right a b (Tighter p) e never = omega arith
+same_power_right a b (Alike p s t) e never = never t s
 
 not_below : (a b : Operator) → MayStand side.Left a b → a.power < b.power → ⊥
 not_below a b (Tighter p) lt = omega arith
@@ -116,7 +116,7 @@ module _ (a b : Operator) (between : List Operator) (power : a.power ≡ b.power
 
 -- a right tree has no two operators that clash
 pub no_clash : (tree : Tree) (operators : List Operator) (earlier later : ℕ) → IsRight tree → operators_of tree ≡ operators → IsClash operators earlier later → ⊥
-no_clash tree operators earlier later right e c = apart c.first c.second c.between c.one_power c.tighter c.not_left c.not_right tree c.before c.behind right (e ∙ c.chain)
+no_clash tree operators earlier later right e c = apart c.first c.second c.between c.one_power c.tighter c.not_left c.not_right tree c.before c.behind right (e ∙ c.chain ∙ append_assoc c.before (c.first ∷ c.between) (c.second ∷ c.behind))
 
 -- what may stand below an operator binds as tightly at least
 at_least : (on : Side) (x node : Operator) → MayStand on x node → node.power ≤ x.power

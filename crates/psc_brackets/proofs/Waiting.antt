@@ -26,7 +26,6 @@ none_last (y ∷ xs) x e = cc
 
 -- all that was read, as one tree
 folded : List Waiter → Tree → Tree
-unfolding folded
 folded [] tree = tree
 folded (w ∷ ws) tree = folded ws (Node w.left w.operator tree)
 
@@ -102,10 +101,9 @@ take_top operators at pending turns w ws tree h front last e f = record {
   told_more =
       let number : last ≡ length (read ws) + length (operators_of w.left) = f ∙ length-append (read ws) (operators_of w.left) in
       let start : turns ≡ (told ws ++ walk w.left (length (read ws))) ++ walk tree (length (read ws) + length (operators_of w.left) + 1) = h.walked ∙ ap (λ (k : ℕ). (told ws ++ walk w.left (length (read ws))) ++ walk tree k) behind in
-      ap (λ (zs : List Turn). zs ++ turn.Operator last ∷ []) start
-      ∙ append_assoc (told ws ++ walk w.left (length (read ws))) (walk tree (length (read ws) + length (operators_of w.left) + 1)) (turn.Operator last ∷ [])
-      ∙ append_assoc (told ws) (walk w.left (length (read ws))) (walk tree (length (read ws) + length (operators_of w.left) + 1) ++ turn.Operator last ∷ [])
-      ∙ ap (λ (k : ℕ). told ws ++ (walk w.left (length (read ws)) ++ (walk tree (length (read ws) + length (operators_of w.left) + 1) ++ turn.Operator k ∷ []))) number
+      ap (λ (zs : List Turn). zs ++ turn.Operator last ∷ []) (start ∙ append_assoc (told ws) (walk w.left (length (read ws))) (walk tree (length (read ws) + length (operators_of w.left) + 1)))
+      ∙ append_assoc (told ws) (walk w.left (length (read ws)) ++ walk tree (length (read ws) + length (operators_of w.left) + 1)) (turn.Operator last ∷ [])
+      ∙ ap (λ (k : ℕ). told ws ++ ((walk w.left (length (read ws)) ++ walk tree (length (read ws) + length (operators_of w.left) + 1)) ++ turn.Operator k ∷ [])) number
 
 -- the same for any stack with that top
 pub fold_top : (operators : List Operator) (at : ℕ) (pending : List ℕ) (turns : List Turn) (turns' : List Turn) (front : List ℕ) (last : ℕ) → HoldsTree operators at pending turns → pending ≡ front ++ last ∷ [] → turns' ≡ turns ++ turn.Operator last ∷ [] → HoldsTree operators at front turns'
@@ -116,7 +114,7 @@ fold_top operators at pending turns turns' front last h e f =
 
 append_none : {A : Type 0} → (xs : List A) → xs ++ [] ≡ xs
 append_none [] = refl
-append_none (x ∷ xs) = ap (λ (zs : List A). x ∷ zs) (append_none xs)
+append_none {A = A} (x ∷ xs) = ap (λ (zs : List A). x ∷ zs) (append_none xs)
 
 -- an operand is read
 pub leaf : (operators : List Operator) (at : ℕ) (pending : List ℕ) (turns turns' : List Turn) → Waits operators at pending turns → at ≤ length operators → turns' ≡ turns ++ turn.Operand at ∷ [] → HoldsLeft operators at pending turns'
@@ -152,6 +150,13 @@ taken_next n [] x e = absurd cc
 taken_next zero (y ∷ xs) x e = let h : x ≡ y = cc in ap (λ (q : Operator). q ∷ []) h
 taken_next (suc n) (y ∷ xs) x e = ap (λ (zs : List Operator). y ∷ zs) (taken_next n xs x e)
 
+-- all operators are read
+pub waits_all : (operators : List Operator) (at : ℕ) (pending : List ℕ) (turns : List Turn) → Waits operators at pending turns → at ≡ length operators → Waits operators (length operators) pending turns
+waits_all operators at pending turns w e = rw (← e) w
+
+pub last_leaf : (operators : List Operator) (pending : List ℕ) (turns turns' : List Turn) → Waits operators (length operators) pending turns → turns' ≡ turns ++ turn.Operand (length operators) ∷ [] → HoldsTree operators (length operators) pending turns'
+last_leaf operators pending turns turns' w e = forget_left operators (length operators) pending turns' (leaf operators (length operators) pending turns turns' w (omega arith) e)
+
 -- an operator comes onto the stack
 pub push_waits : (operators : List Operator) (at : ℕ) (pending pending' : List ℕ) (turns : List Turn) → Settles operators at pending turns → at < length operators → pending' ≡ pending ++ at ∷ [] → Waits operators (at + 1) pending' turns
 push_waits operators at pending pending' turns s lt e =
@@ -160,7 +165,7 @@ push_waits operators at pending pending' turns s lt e =
     record {
       waiters = record { left = s.tree; operator = o.0 } ∷ s.waiters;
       stand = (s.holds.stand, s.holds.right, s.below o.0 o.1, s.onto o.0 o.1);
-      done = sym (append_assoc (read s.waiters) (operators_of s.tree) (o.0 ∷ [])) ∙ ap (λ (zs : List Operator). zs ++ o.0 ∷ []) s.holds.done ∙ taken_next at operators o.0 o.1 ∙ ap (λ (k : ℕ). take k operators) (sym add-one);
+      done = sym (append_assoc (read s.waiters) (operators_of s.tree) (o.0 ∷ [])) ∙ ap (λ (zs : List Operator). zs ++ o.0 ∷ []) s.holds.done ∙ taken_next at operators o.0 o.1 ∙ ap (λ (k : ℕ). take k operators) (sym (add-one at));
       stacked = e ∙ ap (λ (zs : List ℕ). zs ++ at ∷ []) s.holds.stacked ∙ ap (λ (k : ℕ). numbers s.waiters ++ k ∷ []) size;
       walked = s.holds.walked;
     }
@@ -216,7 +221,7 @@ module _ (operators : List Operator) (at : ℕ) (pending : List ℕ) (turns : Li
   below_top (Node _ _ _) t = t
 
   clash_at : (later : Operator) → slice_get operators at ≡ Some later → (top.top.operator.power ≡ later.power) → (top.top.operator.side ≡ side.Left → later.side ≡ side.Left → ⊥) → (top.top.operator.side ≡ side.Right → later.side ≡ side.Right → ⊥) → IsClash operators last at
-  clash_at later g power no_left no_right =
+  clash_at later g power left right =
       let c = cut_at at operators later g in
       let whole : (read top.rest ++ operators_of top.top.left) ++ top.top.operator ∷ operators_of h.tree ≡ take at operators = chain_at operators at pending turns top.top top.rest h.tree holds in
       let size : length (read top.rest ++ operators_of top.top.left) + suc (length (operators_of h.tree)) ≡ at = sym (length-append (read top.rest ++ operators_of top.top.left) (top.top.operator ∷ operators_of h.tree)) ∙ ap length whole ∙ length-take-le at operators (omega arith) in
@@ -226,13 +231,13 @@ module _ (operators : List Operator) (at : ℕ) (pending : List ℕ) (turns : Li
         between = operators_of h.tree;
         second = later;
         behind = c.0;
-        chain = c.1 ∙ ap (λ (zs : List Operator). zs ++ later ∷ c.0) (sym whole) ∙ append_assoc (read top.rest ++ operators_of top.top.left) (top.top.operator ∷ operators_of h.tree) (later ∷ c.0);
+        chain = c.1 ∙ ap (λ (zs : List Operator). zs ++ later ∷ c.0) (sym whole);
         earlier_at = top.last_at;
         later_at = omega arith;
         one_power = power;
         tighter = all_tighter h.tree top.top.operator later power h.holds.right (h.below later g) (below_top h.tree holds.on_top);
-        not_left = no_left;
-        not_right = no_right;
+        not_left = left;
+        not_right = right;
       }
 
   within_take : (xs : List Operator) (x : Operator) (ys : List Operator) (n : ℕ) → length xs < n → (zs : List Operator) × (take n (xs ++ x ∷ ys) ≡ xs ++ x ∷ zs)
@@ -252,7 +257,7 @@ module _ (operators : List Operator) (at : ℕ) (pending : List ℕ) (turns : Li
         between = c.between;
         second = c.second;
         behind = r.0;
-        chain = ap (λ (zs : List Operator). take at zs) (c.chain ∙ sym (append_assoc c.before (c.first ∷ c.between) (c.second ∷ c.behind))) ∙ r.1 ∙ append_assoc c.before (c.first ∷ c.between) (c.second ∷ r.0);
+        chain = ap (λ (zs : List Operator). take at zs) c.chain ∙ r.1;
         earlier_at = c.earlier_at;
         later_at = c.later_at;
         one_power = c.one_power;

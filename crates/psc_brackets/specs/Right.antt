@@ -35,7 +35,7 @@ IsRight (Node left operator right) = IsRight left × MayStandBelow side.Left lef
 -- the walk through a tree that tells each node behind its operands; operands are numbered from the given one on
 abbrev pub walk : Tree → ℕ → List Turn
 walk Leaf n = turn.Operand n ∷ []
-walk (Node left operator right) n = walk left n ++ walk right (n + length (operators_of left) + 1) ++ turn.Operator (n + length (operators_of left)) ∷ []
+walk (Node left operator right) n = (walk left n ++ walk right (n + length (operators_of left) + 1)) ++ turn.Operator (n + length (operators_of left)) ∷ []
 
 -- each operator of the list binds tighter than that one
 abbrev pub AllTighter : List Operator → Operator → Type 0
@@ -49,7 +49,7 @@ pub record IsClash (operators : List Operator) (earlier later : ℕ) : Type 0 wh
   pub between : List Operator
   pub second : Operator
   pub behind : List Operator
-  pub chain : operators ≡ before ++ first ∷ between ++ second ∷ behind
+  pub chain : operators ≡ (before ++ first ∷ between) ++ second ∷ behind
   pub earlier_at : earlier ≡ length before
   pub later_at : later ≡ length before + 1 + length between
   pub one_power : first.power ≡ second.power

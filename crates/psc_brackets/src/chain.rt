@@ -2,7 +2,7 @@
 
 ghost use Rattle.std.specs.Prelude.{◌≡◌, ◌<◌, ◌++◌, [], ◌∷◌, length, IfOk, OnOk, MatchOption, MatchResult};
 ghost use Rattle.psc_brackets.specs.Right.{IsTheWalk, IsTheClash};
-ghost use Rattle.psc_brackets.specs.Stack.{HoldsTree, HoldsLeft, Settles, IsBond, IsBondAt};
+ghost use Rattle.psc_brackets.specs.Stack.{HoldsTree, HoldsLeft, Settles, Waits, IsBond, IsBondAt};
 
 use psc_ast::Side;
 use psc_text::NoMemory;
@@ -72,12 +72,11 @@ pub fn bracket(alloc: Global, operators: &[Operator]) -> Result<Result<Vec<Turn>
     let mut pending = Vec::new(alloc);
     for later in 0..operators.len() {
         turns.push(Turn::Operand(later))?;
-        if let Some(clash) = settle(operators, &mut pending, &mut turns, later)? {
-            return Ok(Err(clash));
+        match settle(operators, &mut pending, &mut turns, later)? {
+            Some(clash) => return Ok(Err(clash)),
+            None => pending.push(later)?,
         }
-        pending.push(later)?;
     }
-    turns.push(Turn::Operand(operators.len()))?;
     finish(operators, &mut pending, &mut turns)?;
     Ok(Ok(turns))
 }
@@ -106,8 +105,17 @@ fn settle(
     Ok(None)
 }
 
-/// Ends all pending operators.
+/// Reads the last operand, and ends all pending operators.
 fn finish(operators: &[Operator], pending: &mut Vec<usize>, turns: &mut Vec<Turn>) -> Result<(), NoMemory>
+    requires { Waits operators.now (length operators.now) pending.old.items turns.old.items }
+    ensures { OnOk result (IsTheWalk operators.now turns.new.items) }
+{
+    turns.push(Turn::Operand(operators.len()))?;
+    end_all(operators, pending, turns)
+}
+
+/// Ends all pending operators.
+fn end_all(operators: &[Operator], pending: &mut Vec<usize>, turns: &mut Vec<Turn>) -> Result<(), NoMemory>
     requires { HoldsTree operators.now (length operators.now) pending.old.items turns.old.items }
     ensures { OnOk result (IsTheWalk operators.now turns.new.items) }
 {

@@ -1,6 +1,6 @@
 //! Declarations in plain forms.
 
-use crate::exprs::{value_of_decls, value_of_members};
+use crate::binds::{value_of_decls, value_of_members};
 use crate::names::instance_names;
 use crate::runs::{end_of_run, runs_of_members};
 use crate::state::Desugar;
@@ -8,8 +8,8 @@ use crate::stop::Stop;
 use crate::types::{constraints, head_vars, kind, signature, typ, typs};
 use psc_ast::{ClassDecl, Clause, DataDecl, Decl, Dep, IdentAt, InstanceDecl, SynonymDecl, TypeVar};
 use psc_plain::{
-    PlainClass, PlainCtor, PlainData, PlainDep, PlainForeign, PlainInstance, PlainMember, PlainSignature,
-    PlainSynonym, PlainTypeDecl, PlainValue,
+    PlainClass, PlainCtor, PlainData, PlainDep, PlainForeign, PlainInstance, PlainMember, PlainSynonym, PlainTypeDecl,
+    PlainValue,
 };
 use psc_text::{Ident, NoMemory, Text};
 use psc_type::Kind;

@@ -1,26 +1,17 @@
 //! Expressions in plain forms.
 
 use crate::binders::{binder, binders};
-use crate::build::{
-    all_variables, alternative, application, case_of_one, lambda, made, made_all, made_lambdas, operation, value,
-};
-use crate::groups::groups_of;
-use crate::runs::{Run, runs_of_binds};
+use crate::build::{all_variables, alternative, application, lambda, made, made_all, made_lambdas, operation, value};
+use crate::binds::{Place, let_in};
+use crate::statements::{ado, do_block};
 use crate::state::{Desugar, Names, local};
-use crate::stop::{Stop, wrong};
-use crate::types::{signature, typ};
-use psc_ast::{
-    Alt, Bind, BinderTree, Branch, Clause, Decl, ExprTree, Field, Guard, Rhs, Stmt, Test, TickStep, Update,
-};
-use psc_error::Code;
-use psc_plain::{
-    PlainAlt, PlainBind, PlainBindGroup, PlainBinder, PlainExpr, PlainField, PlainGuard, PlainRhs, PlainSignature,
-    PlainTest,
-};
-use psc_text::{Ident, NoMemory, Span, Text};
+use crate::stop::Stop;
+use crate::types::typ;
+use psc_ast::{Alt, BinderTree, Branch, ExprTree, Field, Guard, Rhs, Test, TickStep, Update};
+
+use psc_plain::{PlainAlt, PlainBinder, PlainExpr, PlainField, PlainGuard, PlainRhs, PlainTest};
+use psc_text::{Ident, NoMemory, Span};
 use sqlite_items::{Boxed, Items};
-use std::alloc::Global;
-use std::mem;
 
 /// An expression in plain forms.
 #[cycle(exprs)]
@@ -173,7 +164,7 @@ fn function(state: &mut Desugar, list: &[BinderTree], body: &Boxed<ExprTree>, sp
 }
 
 /// Brings the variables of a binder list into scope.
-fn enter_variables(state: &mut Desugar, list: &[BinderTree]) -> Result<(), Stop> {
+pub(crate) fn enter_variables(state: &mut Desugar, list: &[BinderTree]) -> Result<(), Stop> {
     let mut names = state.names();
     for tree in list {
         if let BinderTree::Variable { name } = tree {
@@ -185,7 +176,7 @@ fn enter_variables(state: &mut Desugar, list: &[BinderTree]) -> Result<(), Stop>
 }
 
 /// Functions of written names round an expression.
-fn named_lambdas(state: &Desugar, list: &[BinderTree], body: PlainExpr, span: Span) -> Result<PlainExpr, NoMemory> {
+pub(crate) fn named_lambdas(state: &Desugar, list: &[BinderTree], body: PlainExpr, span: Span) -> Result<PlainExpr, NoMemory> {
     let mut whole = body;
     for tree in list.iter().rev() {
         if let BinderTree::Variable { name } = tree {
@@ -210,7 +201,7 @@ fn alternatives(state: &mut Desugar, list: &[Alt]) -> Result<Items<PlainAlt>, St
 }
 
 #[cycle(exprs)]
-fn right_side(state: &mut Desugar, rhs: &Rhs) -> Result<PlainRhs, Stop> {
+pub(crate) fn right_side(state: &mut Desugar, rhs: &Rhs) -> Result<PlainRhs, Stop> {
     match rhs {
         Rhs::Plain(branch) => {
             let body = branch_of(state, branch)?;
@@ -253,7 +244,7 @@ fn test_of(state: &mut Desugar, test: &Test) -> Result<PlainTest, Stop> {
 
 /// An expression in the `let` of its `where`, if it has one.
 #[cycle(exprs)]
-fn branch_of(state: &mut Desugar, branch: &Branch) -> Result<PlainExpr, Stop> {
+pub(crate) fn branch_of(state: &mut Desugar, branch: &Branch) -> Result<PlainExpr, Stop> {
     match &branch.locals {
         None => expr(state, branch.body.get()),
         Some(locals) => {
@@ -265,296 +256,6 @@ fn branch_of(state: &mut Desugar, branch: &Branch) -> Result<PlainExpr, Stop> {
             Ok(whole)
         }
     }
-}
-
-/// Where a `let` stands, and whether it was a `where`.
-#[derive(Clone, Copy, Debug, PartialEq, Eq)]
-struct Place {
-    of_where: bool,
-    span: Span,
-}
-
-/// What stands round the body of a `let`.
-#[derive(Drop)]
-enum Layer {
-    /// Bindings that see one another, in their groups.
-    Groups(Items<PlainBindGroup>),
-    /// A binder that is no variable, with its right side.
-    Match { binder: PlainBinder, value: PlainExpr, span: Span },
-}
-
-/// A body in the bindings of a `let`. All names of the bindings are counted in one list.
-#[cycle(exprs)]
-fn let_in(state: &mut Desugar, binds: &[Bind], body: &ExprTree, names: &mut Names, place: Place) -> Result<PlainExpr, Stop> {
-    let mut layers = Vec::new(state.alloc);
-    if place.of_where {
-        // The names of a `where` are bound in the body that stands before them.
-        let mark = state.scope.mark();
-        enter_bound(state, binds)?;
-        let body = expr(state, body)?;
-        state.scope.leave(mark);
-        add_layers(state, binds, names, &mut layers)?;
-        return Ok(wrap(state.alloc, layers, body, place)?);
-    }
-    add_layers(state, binds, names, &mut layers)?;
-    let body = expr(state, body)?;
-    Ok(wrap(state.alloc, layers, body, place)?)
-}
-
-/// The layers of bindings, whose names stay bound.
-#[cycle(exprs)]
-fn add_layers(state: &mut Desugar, binds: &[Bind], names: &mut Names, layers: &mut Vec<Layer>) -> Result<(), Stop> {
-    for (place, bind) in binds.iter().enumerate() {
-        match bind {
-            Bind::Value { binder: bound, rhs, span } => {
-                let value = rhs_value(state, rhs, *span)?;
-                let binder = binder(state, bound, names)?;
-                layers.push(Layer::Match { binder, value, span: *span })?;
-            }
-            Bind::Sig(_) | Bind::Clause(_) => {
-                if begins_segment(binds, place) {
-                    let segment = &binds[place..place + segment_len(&binds[place..])];
-                    layers.push(Layer::Groups(segment_of(state, segment, names)?))?;
-                }
-            }
-        }
-    }
-    Ok(())
-}
-
-/// Whether the binding at a place is the first one, or the first one behind a binding by a binder.
-fn begins_segment(binds: &[Bind], place: usize) -> bool {
-    match place.checked_sub(1) {
-        Some(before) => matches!(binds.get(before), Some(Bind::Value { .. })),
-        None => true,
-    }
-}
-
-/// How many bindings stand before the first one by a binder.
-fn segment_len(binds: &[Bind]) -> usize {
-    match binds.iter().position(|bind| matches!(bind, Bind::Value { .. })) {
-        Some(len) => len,
-        None => binds.len(),
-    }
-}
-
-/// Puts layers round a body, the last one first.
-fn wrap(alloc: Global, layers: Vec<Layer>, body: PlainExpr, place: Place) -> Result<PlainExpr, NoMemory> {
-    let mut layers = layers;
-    let mut whole = body;
-    for _ in 0..layers.len() {
-        if let Some(layer) = layers.pop() {
-            whole = wrap_one(alloc, layer, whole, place)?;
-        }
-    }
-    Ok(whole)
-}
-
-fn wrap_one(alloc: Global, layer: Layer, body: PlainExpr, place: Place) -> Result<PlainExpr, NoMemory> {
-    match layer {
-        Layer::Groups(groups) => Ok(PlainExpr::Let {
-            groups,
-            body: Boxed::new(alloc, body)?,
-            of_where: place.of_where,
-            span: place.span,
-        }),
-        Layer::Match { binder, value, span } => {
-            let alt = alternative(alloc, binder, body, span)?;
-            case_of_one(alloc, value, alt, place.span)
-        }
-    }
-}
-
-/// Brings the names of bindings into scope, as if binders had bound them.
-fn enter_bound(state: &mut Desugar, binds: &[Bind]) -> Result<(), Stop> {
-    for bind in binds {
-        match bind {
-            Bind::Clause(clause) => state.scope.enter(&clause.name.name.0)?,
-            Bind::Value { binder: bound, .. } => {
-                let mut names = state.names();
-                let _plain = binder(state, bound, &mut names)?;
-            }
-            Bind::Sig(_) => (),
-        }
-    }
-    Ok(())
-}
-
-/// The right side of a binding without arguments.
-#[cycle(exprs)]
-fn rhs_value(state: &mut Desugar, rhs: &Rhs, span: Span) -> Result<PlainExpr, Stop> {
-    match rhs {
-        Rhs::Plain(branch) => branch_of(state, branch),
-        Rhs::Guarded(_) => {
-            let rhs = right_side(state, rhs)?;
-            let mut alternatives = Items::new(state.alloc);
-            alternatives.push(PlainAlt { binders: Items::new(state.alloc), rhs, span })?;
-            Ok(PlainExpr::Case { scrutinees: Items::new(state.alloc), alternatives, span })
-        }
-    }
-}
-
-/// Bindings that see one another, in their groups.
-#[cycle(exprs)]
-fn segment_of(state: &mut Desugar, binds: &[Bind], names: &mut Names) -> Result<Items<PlainBindGroup>, Stop> {
-    let runs = runs_of_binds(state.alloc, binds)?;
-    let frame = state.scope.open()?;
-    for run in &runs {
-        if let Some(Bind::Clause(first)) = binds.get(run.from) {
-            state.scope.declare(frame, &first.name.name.0)?;
-        }
-    }
-    let mut plain = Vec::new(state.alloc);
-    for (number, run) in runs.iter().enumerate() {
-        state.scope.stand_in(frame, Some(number));
-        plain.push(bind_of(state, binds, *run, names)?)?;
-    }
-    let mentions = state.scope.close(frame);
-    Ok(groups_of(state.alloc, plain, &mentions)?)
-}
-
-/// The binding that successive clauses make, with the signature before them.
-#[cycle(exprs)]
-fn bind_of(state: &mut Desugar, binds: &[Bind], run: Run, names: &mut Names) -> Result<PlainBind, Stop> {
-    let Some(Bind::Clause(first)) = binds.get(run.from) else {
-        return Err(Stop::NoMemory);
-    };
-    names.add(&first.name.name.0, first.span)?;
-    let signature = signature_before(state, binds, run.from)?;
-    let body = value_of_binds(state, &binds[run.from..run.to])?;
-    Ok(PlainBind {
-        name: first.name.name.clone()?,
-        name_span: first.name.span,
-        signature,
-        body: Boxed::new(state.alloc, body)?,
-        span: first.span,
-    })
-}
-
-fn signature_before(state: &Desugar, binds: &[Bind], place: usize) -> Result<Option<PlainSignature>, NoMemory> {
-    let Some(before) = place.checked_sub(1) else {
-        return Ok(None);
-    };
-    match binds.get(before) {
-        Some(Bind::Sig(sig)) => Ok(Some(signature(state, sig)?)),
-        _ => Ok(None),
-    }
-}
-
-#[cycle(exprs)]
-fn value_of_binds(state: &mut Desugar, binds: &[Bind]) -> Result<PlainExpr, Stop> {
-    let mut cases = Cases::new(state);
-    for bind in binds {
-        if let Bind::Clause(one) = bind {
-            if binds.len() == 1 && keeps_names(one) {
-                return named_clause(state, one);
-            }
-            cases.begin(state, one)?;
-            let alt = clause_alt(state, one)?;
-            cases.alternatives.push(alt)?;
-        }
-    }
-    Ok(cases.into_value(state)?)
-}
-
-/// The value that successive clauses of an instance's member make.
-pub(crate) fn value_of_members(state: &mut Desugar, members: &[Clause]) -> Result<PlainExpr, Stop> {
-    let mut cases = Cases::new(state);
-    for one in members {
-        if members.len() == 1 && keeps_names(one) {
-            return named_clause(state, one);
-        }
-        cases.begin(state, one)?;
-        let alt = clause_alt(state, one)?;
-        cases.alternatives.push(alt)?;
-    }
-    Ok(cases.into_value(state)?)
-}
-
-/// The value that successive top-level clauses make.
-pub(crate) fn value_of_decls(state: &mut Desugar, decls: &[Decl]) -> Result<PlainExpr, Stop> {
-    let mut cases = Cases::new(state);
-    for decl in decls {
-        if let Decl::Clause(one) = decl {
-            if decls.len() == 1 && keeps_names(one) {
-                return named_clause(state, one);
-            }
-            cases.begin(state, one)?;
-            let alt = clause_alt(state, one)?;
-            cases.alternatives.push(alt)?;
-        }
-    }
-    Ok(cases.into_value(state)?)
-}
-
-/// Clauses that become one case of made names.
-#[derive(Drop)]
-pub(crate) struct Cases {
-    /// The made names and the place of the first clause, once it is met.
-    first: Option<Span>,
-    numbers: Vec<u32>,
-    last: Span,
-    alternatives: Items<PlainAlt>,
-}
-
-impl Cases {
-    fn new(state: &Desugar) -> Cases {
-        Cases {
-            first: None,
-            numbers: Vec::new(state.alloc),
-            last: Span::START,
-            alternatives: Items::new(state.alloc),
-        }
-    }
-
-    /// Begins a clause, which must have as many arguments as the first one.
-    fn begin(&mut self, state: &mut Desugar, clause: &Clause) -> Result<(), Stop> {
-        if self.first.is_none() {
-            self.numbers = state.numbers(clause.arguments.len())?;
-            self.first = Some(clause.span);
-        }
-        self.last = clause.span;
-        if clause.arguments.len() == self.numbers.len() {
-            Ok(())
-        } else {
-            Err(wrong(Code::ArgListLengthsDiffer, &clause.name.name.0, clause.span))
-        }
-    }
-
-    fn into_value(self, state: &Desugar) -> Result<PlainExpr, NoMemory> {
-        let Cases { first, numbers, last, alternatives } = self;
-        let span = match first {
-            Some(first) => first.to(last),
-            None => last,
-        };
-        let scrutinees = made_all(state, &numbers, span)?;
-        let whole = PlainExpr::Case { scrutinees, alternatives, span };
-        made_lambdas(state, &numbers, whole, span)
-    }
-}
-
-/// Whether a clause that stands alone keeps its names: it has variables alone and no guards.
-fn keeps_names(clause: &Clause) -> bool {
-    all_variables(clause.arguments.as_slice()) && matches!(clause.rhs, Rhs::Plain(_))
-}
-
-#[cycle(exprs)]
-fn named_clause(state: &mut Desugar, clause: &Clause) -> Result<PlainExpr, Stop> {
-    let mark = state.scope.mark();
-    enter_variables(state, clause.arguments.as_slice())?;
-    let body = rhs_value(state, &clause.rhs, clause.span)?;
-    state.scope.leave(mark);
-    Ok(named_lambdas(state, clause.arguments.as_slice(), body, clause.span)?)
-}
-
-#[cycle(exprs)]
-fn clause_alt(state: &mut Desugar, clause: &Clause) -> Result<PlainAlt, Stop> {
-    let mark = state.scope.mark();
-    let mut names = state.names();
-    let binders = binders(state, clause.arguments.as_slice(), &mut names)?;
-    let rhs = right_side(state, &clause.rhs)?;
-    state.scope.leave(mark);
-    Ok(PlainAlt { binders, rhs, span: clause.span })
 }
 
 #[cycle(exprs)]
@@ -572,249 +273,6 @@ fn block(state: &mut Desugar, tree: &ExprTree) -> Result<PlainExpr, Stop> {
     };
     state.scope.leave(mark);
     Ok(whole)
-}
-
-/// What a statement's value is handed: a function of what the statement binds.
-#[derive(Drop)]
-enum Handed {
-    Named { name: Ident, span: Span },
-    Made { number: u32 },
-    Matched { number: u32, binder: PlainBinder },
-}
-
-/// What stands round the statements behind it.
-#[derive(Drop)]
-enum Step {
-    Call { function: PlainExpr, handed: Handed, span: Span },
-    Let { layers: Vec<Layer>, span: Span },
-}
-
-/// The statements of a `do`, the last of which is its value.
-#[cycle(exprs)]
-fn do_block(state: &mut Desugar, statements: &[Stmt], span: Span) -> Result<PlainExpr, Stop> {
-    let mut steps = Vec::new(state.alloc);
-    let mut last = None;
-    for (place, statement) in statements.iter().enumerate() {
-        let is_last = statements.len() - place == 1;
-        match statement {
-            Stmt::Run { value } if is_last => last = Some(expr(state, value)?),
-            _ => steps.push(step_of(state, statement)?)?,
-        }
-    }
-    match last {
-        Some(last) => Ok(wrap_steps(state, steps, last, span)?),
-        None => Err(Stop::NoMemory),
-    }
-}
-
-#[cycle(exprs)]
-fn step_of(state: &mut Desugar, statement: &Stmt) -> Result<Step, Stop> {
-    match statement {
-        Stmt::Binds { binder: BinderTree::Variable { name }, value, span } => {
-            let function = expr(state, value)?;
-            state.scope.enter(&name.name.0)?;
-            let handed = Handed::Named { name: name.name.clone()?, span: name.span };
-            Ok(Step::Call { function, handed, span: *span })
-        }
-        Stmt::Binds { binder: bound, value, span } => {
-            let number = state.number()?;
-            let function = expr(state, value)?;
-            let mut names = state.names();
-            let binder = binder(state, bound, &mut names)?;
-            Ok(Step::Call { function, handed: Handed::Matched { number, binder }, span: *span })
-        }
-        Stmt::Run { value } => {
-            let number = state.number()?;
-            let span = value.span();
-            let function = expr(state, value)?;
-            Ok(Step::Call { function, handed: Handed::Made { number }, span })
-        }
-        Stmt::Let { binds, span } => {
-            let mut names = state.names();
-            let mut layers = Vec::new(state.alloc);
-            add_layers(state, binds.as_slice(), &mut names, &mut layers)?;
-            Ok(Step::Let { layers, span: *span })
-        }
-    }
-}
-
-/// Puts statements round the last one, from the last to the first.
-fn wrap_steps(state: &Desugar, steps: Vec<Step>, last: PlainExpr, span: Span) -> Result<PlainExpr, NoMemory> {
-    let mut steps = steps;
-    let mut whole = last;
-    for _ in 0..steps.len() {
-        if let Some(step) = steps.pop() {
-            whole = wrap_step(state, step, whole, span)?;
-        }
-    }
-    Ok(whole)
-}
-
-fn wrap_step(state: &Desugar, step: Step, rest: PlainExpr, span: Span) -> Result<PlainExpr, NoMemory> {
-    match step {
-        Step::Let { layers, span: at } => wrap(state.alloc, layers, rest, Place { of_where: false, span: at.to(span_end(span)) }),
-        Step::Call { function, handed, span: at } => {
-            let whole = at.to(span_end(span));
-            let behind = rest.span();
-            let argument = handed_to(state, handed, rest, behind)?;
-            application(state.alloc, function, argument, whole)
-        }
-    }
-}
-
-/// The empty place at the end of another.
-fn span_end(span: Span) -> Span {
-    Span { line: span.end_line, column: span.end_column, end_line: span.end_line, end_column: span.end_column }
-}
-
-fn handed_to(state: &Desugar, handed: Handed, body: PlainExpr, span: Span) -> Result<PlainExpr, NoMemory> {
-    match handed {
-        Handed::Named { name, span: at } => lambda(state.alloc, name, at, body, span),
-        Handed::Made { number } => lambda(state.alloc, state.made(number)?, span, body, span),
-        Handed::Matched { number, binder } => {
-            let at = binder.span();
-            let alt = alternative(state.alloc, binder, body, span)?;
-            let whole = case_of_one(state.alloc, made(state, number, at)?, alt, span)?;
-            lambda(state.alloc, state.made(number)?, at, whole, span)
-        }
-    }
-}
-
-/// An `ado`: its steps' values under `map` and `apply`, with a function of what the steps bind.
-#[cycle(exprs)]
-fn ado(state: &mut Desugar, statements: &[Stmt], result: &ExprTree, span: Span) -> Result<PlainExpr, Stop> {
-    let variables = steps_are_variables(statements);
-    let count = steps_of(statements);
-    let numbers = if variables { Vec::new(state.alloc) } else { state.numbers(count)? };
-    let mark = state.scope.mark();
-    let bound = step_binders(state, statements)?;
-    let mut inner = state.scope.since(mark)?;
-    state.scope.leave(mark);
-    let mut layers = Vec::new(state.alloc);
-    let mut calls = Vec::new(state.alloc);
-    for statement in statements {
-        match statement {
-            Stmt::Let { binds, .. } => {
-                state.scope.enter_all(&inner)?;
-                let before = state.scope.mark();
-                let mut names = state.names();
-                add_layers(state, binds.as_slice(), &mut names, &mut layers)?;
-                add_texts(&mut inner, state.scope.since(before)?)?;
-                state.scope.leave(mark);
-            }
-            Stmt::Binds { value, .. } | Stmt::Run { value } => calls.push(expr(state, value)?)?,
-        }
-    }
-    state.scope.enter_all(&inner)?;
-    let body = ado_result(state, result, layers, count, span)?;
-    if count == 0 {
-        return Ok(body);
-    }
-    let function = ado_function(state, bound, variables, &numbers, body, span)?;
-    Ok(ado_calls(state.alloc, calls, function, span)?)
-}
-
-/// The result in the `let`s. Where there is no step, `pure` stands round both.
-#[cycle(exprs)]
-fn ado_result(state: &mut Desugar, result: &ExprTree, layers: Vec<Layer>, count: usize, span: Span) -> Result<PlainExpr, Stop> {
-    let place = Place { of_where: false, span };
-    match result {
-        ExprTree::Call { function, arguments, .. } if count == 0 => {
-            let function = expr(state, function.get())?;
-            let mut whole = function;
-            let mut layers = layers;
-            for argument in arguments.as_slice() {
-                let argument = expr(state, argument)?;
-                let inside = wrap(state.alloc, mem::replace(&mut layers, Vec::new(state.alloc)), argument, place)?;
-                whole = application(state.alloc, whole, inside, span)?;
-            }
-            Ok(whole)
-        }
-        _ => {
-            let body = expr(state, result)?;
-            Ok(wrap(state.alloc, layers, body, place)?)
-        }
-    }
-}
-
-fn steps_of(statements: &[Stmt]) -> usize {
-    statements.iter().filter(|one| !matches!(one, Stmt::Let { .. })).count()
-}
-
-/// Whether each step binds a variable.
-fn steps_are_variables(statements: &[Stmt]) -> bool {
-    statements.iter().all(|one| match one {
-        Stmt::Binds { binder, .. } => matches!(binder, BinderTree::Variable { .. }),
-        Stmt::Run { .. } => false,
-        Stmt::Let { .. } => true,
-    })
-}
-
-/// The binders of the steps, whose names stay bound; a step that binds nothing has `_`.
-fn step_binders(state: &mut Desugar, statements: &[Stmt]) -> Result<Items<PlainBinder>, Stop> {
-    let mut names = state.names();
-    let mut list = Items::new(state.alloc);
-    for statement in statements {
-        match statement {
-            Stmt::Binds { binder: bound, .. } => list.push(binder(state, bound, &mut names)?)?,
-            Stmt::Run { value } => list.push(PlainBinder::Wild { span: value.span() })?,
-            Stmt::Let { .. } => (),
-        }
-    }
-    Ok(list)
-}
-
-fn add_texts(list: &mut Vec<Text>, more: Vec<Text>) -> Result<(), NoMemory> {
-    for one in more {
-        list.push(one)?;
-    }
-    Ok(())
-}
-
-/// The function of what the steps bind.
-fn ado_function(
-    state: &Desugar,
-    bound: Items<PlainBinder>,
-    variables: bool,
-    numbers: &[u32],
-    body: PlainExpr,
-    span: Span,
-) -> Result<PlainExpr, NoMemory> {
-    if !variables {
-        let mut alternatives = Items::new(state.alloc);
-        alternatives.push(PlainAlt { binders: bound, rhs: PlainRhs::Body(Boxed::new(state.alloc, body)?), span })?;
-        let scrutinees = made_all(state, numbers, span)?;
-        let whole = PlainExpr::Case { scrutinees, alternatives, span };
-        return made_lambdas(state, numbers, whole, span);
-    }
-    let mut bound = bound;
-    let mut whole = body;
-    for _ in 0..bound.len() {
-        if let Some(PlainBinder::Variable { name, span: at }) = bound.pop() {
-            whole = lambda(state.alloc, name, at, whole, span)?;
-        }
-    }
-    Ok(whole)
-}
-
-/// `apply (.. (map f e1) ..) en`, from the calls of `map` and `apply` with one argument.
-fn ado_calls(alloc: Global, calls: Vec<PlainExpr>, function: PlainExpr, span: Span) -> Result<PlainExpr, NoMemory> {
-    let mut whole = function;
-    for call in calls {
-        whole = ado_call(alloc, call, whole, span)?;
-    }
-    Ok(whole)
-}
-
-/// Puts what stands before a step between the step's function and its value.
-fn ado_call(alloc: Global, call: PlainExpr, before: PlainExpr, span: Span) -> Result<PlainExpr, NoMemory> {
-    match call {
-        PlainExpr::Application { function, argument, span: at } => {
-            let one = application(alloc, function.into_inner(), before, at)?;
-            application(alloc, one, argument.into_inner(), span)
-        }
-        other => application(alloc, other, before, span),
-    }
 }
 
 #[cycle(exprs)]

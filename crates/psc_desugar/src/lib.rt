@@ -7,6 +7,7 @@
 #![tactic(auto)]
 
 mod binders;
+mod binds;
 mod build;
 mod decls;
 mod exprs;
@@ -16,6 +17,7 @@ mod plain;
 mod runs;
 mod scope;
 mod state;
+mod statements;
 mod stop;
 mod types;
 

@@ -128,8 +128,8 @@ module _ (m : List (Vec ℕ Global)) (numbers : List ℕ) (count : ℕ) where
         | inl o ↦ are.apart g h o e
         | inr s ↦ ne (sym s.0 ∙ e ∙ s.1)
       ];
-      linked = λ d c g h x seen fa fc no. elim (split d x.place seen) [
-        | inl s ↦ kept old.lists.items lists from to g h a (are.linked d c g h x s fa fc no)
+      linked = λ d c g h x seen fa fc never. elim (split d x.place seen) [
+        | inl s ↦ kept old.lists.items lists from to g h a (are.linked d c g h x s fa fc never)
         | inr s ↦ (
             let y : Mentions m at c = record { list = x.list; place = x.place; has = rw (← s.0) x.has; at = x.at } in
             let t : c ≡ b = target c y s.1 in

@@ -1,11 +1,11 @@
 -- The queue keeps what the order needs.
-use Rattle.std.proofs.Common.{◌≡◌, ◌≢◌, ℕ, ◌+◌, ◌<◌, ◌≤◌, zero, suc, List, [], ◌∷◌, ◌++◌, Bool, true, false, length, length-append, Some, None, slice_get, slice_set, ◌⊎◌, inl, inr, ap, refl, sym, ◌∙◌, arith, length-set}
+use Rattle.std.proofs.Common.{◌≡◌, ◌≢◌, ℕ, ◌+◌, ◌<◌, ◌≤◌, zero, suc, List, [], ◌∷◌, ◌++◌, Bool, true, false, length, length-append, Some, None, Option, MatchOption, slice_get, slice_set, ◌⊎◌, inl, inr, ap, refl, sym, ◌∙◌, arith, length-set}
 use Rattle.std.specs.Ordering.{nat_cmp}
 use Rattle.std.specs.BTreeMap.{BTreeMap, get}
 use Rattle.std.specs.declared.vec.Vec.{Vec}
 use Rattle.std.specs.declared.alloc.Global.{Global}
 use Rattle.psc_groups.specs.Graph.{Mentions}
-use Rattle.psc_groups.specs.Order.{FirstOf, StandsIn, StandsBefore, StandsFrom, CanOrder, IsOrdered, IsOrder, IsPlaced, IsQueue, Stand, Placed, Ready, Waits, Empty, StandBelow, AlsoStands, IsNext, IsUnplaced, AllPlaced, Adds, Takes, AddsReady, TakesReady, AllStandBut}
+use Rattle.psc_groups.specs.Order.{FirstOf, StandsIn, StandsBefore, StandsFrom, CanOrder, IsOrdered, IsOrder, IsPlaced, IsQueue, Stand, Placed, Ready, Waits, Empty, StandBelow, AlsoStands, IsNext, IsUnplaced, AllPlaced, Adds, Takes, AddsReady, TakesReady, AllStandBut, AllLinksPlaced, IsPlaceOf, TargetAt, WaitsAt}
 use Rattle.psc_groups.specs.declared.order.Queue.{Queue}
 use Rattle.psc_groups.proofs.Lists.{after_push, before, pushed, after_write, unwritten, written, within, some_at, same_item}
 
@@ -149,8 +149,8 @@ module _ (L M : List (Vec ℕ Global)) (can : CanOrder L M) where
       still : (x : ℕ) → Stand L M q x → Stand L M q' x
       still x (Placed p) = Placed (rw e3 p)
       still x (Ready f e) = Ready f (rw e4 e)
-      still x (Waits t w m no) = Waits t (kept q.waiters.items q'.waiters.items target g t x adds w) m (λ p. no (rw e3 at p))
-      still x (Empty no) = Empty no
+      still x (Waits t w m never) = Waits t (kept q.waiters.items q'.waiters.items target g t x adds w) m (λ p. never (rw e3 at p))
+      still x (Empty never) = Empty never
 
     -- all that a group mentions is placed
     pub links_placed : (g : ℕ) (list : Vec ℕ Global) (from : ℕ) → slice_get L g ≡ Some list → slice_get q.passed.items g ≡ Some from → AllPlaced q.placed.items list.items from (length list.items) → (h : ℕ) → Mentions L g h → IsPlaced q.placed.items h
@@ -161,6 +161,28 @@ module _ (L M : List (Vec ℕ Global)) (can : CanOrder L M) where
           | inl le ↦ all.each m.place h le (within list.items m.place h at) at
           | inr lt ↦ queue.passed g from m.place h list start lt has at
         ]
+
+    pub place_of : (g place : ℕ) → WaitsAt L q g place → IsPlaceOf L g place
+    place_of g place w = record { within = λ list has. (let same : w.list ≡ list = same_item L g w.list list w.has has in within list.items place w.un.target (rw same at w.un.at)) }
+
+    target_in : (g place target : ℕ) → (w : WaitsAt L q g place) → TargetAt L g place target → slice_get w.list.items place ≡ Some target
+    target_in g place target w t = let same : t.list ≡ w.list = same_item L g t.list w.list t.has w.has in rw same at t.at
+
+    pub target_within : (g place target : ℕ) → TargetAt L g place target → target < length L
+    target_within g place target t = (mention_within g target (record { list = t.list; place = place; has = t.has; at = t.at })).1
+
+    pub wait_queue : (q' : Queue) (g place target : ℕ) → g < length L → WaitsAt L q g place → TargetAt L g place target → q'.passed.items ≡ slice_set q.passed.items g place → Adds q.waiters.items q'.waiters.items target g → q'.placed.items ≡ q.placed.items → q'.ready ≡ q.ready → q'.order.items ≡ q.order.items → IsQueue L M q'
+    wait_queue q' g place target lt w t e1 adds e3 e4 e5 = waits_queue q' g place w.list w.from target lt w.has w.start w.un (target_in g place target w t) e1 adds e3 e4 e5
+
+    pub wait_stand : (q' : Queue) (g place target : ℕ) → g < length L → WaitsAt L q g place → TargetAt L g place target → Adds q.waiters.items q'.waiters.items target g → q'.placed.items ≡ q.placed.items → q'.ready ≡ q.ready → AlsoStands L M q q' g
+    wait_stand q' g place target lt w t adds e3 e4 = waits_stand q' g place w.list w.from target lt w.has w.un (target_in g place target w t) adds e3 e4
+
+    pub waits_told : (g : ℕ) (list : Vec ℕ Global) (from : ℕ) (r : Option ℕ) → slice_get L g ≡ Some list → slice_get q.passed.items g ≡ Some from → MatchOption r (AllPlaced q.placed.items list.items from (length list.items)) (λ place. IsUnplaced q.placed.items list.items from place) → MatchOption r (AllLinksPlaced L q g) (WaitsAt L q g)
+    waits_told g list from None has start all = record { each = λ h m. links_placed g list from has start all h m }
+    waits_told g list from (Some place) has start un = record { list = list; from = from; has = has; start = start; un = un }
+
+    pub mentioned_within : (g : ℕ) (list : Vec ℕ Global) → slice_get L g ≡ Some list → (p h : ℕ) → slice_get list.items p ≡ Some h → h < length q.placed.items
+    mentioned_within g list has p h e = let w = (mention_within g h (record { list = list; place = p; has = has; at = e })).1 in let z = queue.placed_sized in omega arith
 
     -- a group becomes ready
     pub ready_queue : (q' : Queue) (g f : ℕ) → FirstOf M g f → ((h : ℕ) → Mentions L g h → IsPlaced q.placed.items h) → AddsReady q.ready q'.ready f g → q'.passed.items ≡ q.passed.items → q'.waiters.items ≡ q.waiters.items → q'.placed.items ≡ q.placed.items → q'.order.items ≡ q.order.items → IsQueue L M q'
@@ -195,12 +217,12 @@ module _ (L M : List (Vec ℕ Global)) (can : CanOrder L M) where
         | inl s ↦ (let is : x ≡ g = can.one x g f (queue.ready_first f x (rw s at e)) first in rw is (Ready f adds.here))
         | inr ne ↦ Ready a (adds.others a ne ∙ e)
       ]
-      still x (Waits t w m no) = Waits t (rw e2 w) m (λ p. no (rw e3 at p))
-      still x (Empty no) = Empty no
+      still x (Waits t w m never) = Waits t (rw e2 w) m (λ p. never (rw e3 at p))
+      still x (Empty never) = Empty never
 
     -- a group without members
     pub empty_stand : (q' : Queue) (g : ℕ) → ((f : ℕ) → FirstOf M g f → ⊥) → q' ≡ q → AlsoStands L M q q' g
-    empty_stand q' g no e = rw e (record { here = Empty no; others = λ x s. s })
+    empty_stand q' g never e = rw e (record { here = Empty never; others = λ x s. s })
 
     pub same_queue : (q' : Queue) → q' ≡ q → IsQueue L M q'
     same_queue q' e = rw e queue
@@ -239,10 +261,10 @@ module _ (L M : List (Vec ℕ Global)) (can : CanOrder L M) where
       still x ne (Placed p) = Placed (rw e3 p)
       still x ne (Ready a e) = elim (same_or_not a f) [
         | inl s ↦ absurd (ne (let z : Some x ≡ Some g = sym (rw s at e) ∙ takes.was in cc))
-        | inr no ↦ Ready a (takes.others a no ∙ e)
+        | inr never ↦ Ready a (takes.others a never ∙ e)
       ]
-      still x ne (Waits t w m no) = Waits t (rw e2 w) m (λ p. no (rw e3 at p))
-      still x ne (Empty no) = Empty no
+      still x ne (Waits t w m never) = Waits t (rw e2 w) m (λ p. never (rw e3 at p))
+      still x ne (Empty never) = Empty never
 
     pub next_within : (g : ℕ) → IsNext L M q g → g < length L
     next_within g next = first_within g next.first next.is_first
@@ -285,10 +307,10 @@ module _ (L M : List (Vec ℕ Global)) (can : CanOrder L M) where
             let le = next.least a h is in
             elim (same_or_not next.first e) [
               | inl s ↦ absurd (ne (can.one h g e fe (rw s at next.is_first)))
-              | inr no ↦ omega arith
+              | inr never ↦ omega arith
             ]
-        from (Waits t w m no) = absurd (let s = all t m in no (queue.placed s.place t s.at))
-        from (Empty no) = absurd (no e fe)
+        from (Waits t w m never) = absurd (let s = all t m in never (queue.placed s.place t s.at))
+        from (Empty never) = absurd (never e fe)
 
       pub place_queue : IsQueue L M q'
       place_queue = record {
@@ -326,13 +348,13 @@ module _ (L M : List (Vec ℕ Global)) (can : CanOrder L M) where
         still : (x : ℕ) → Stand L M q x → Stand L M q' x ⊎ StandsFrom woken.items 0 x
         still x (Placed p) = inl (Placed (stays x p))
         still x (Ready a e) = inl (Ready a (rw e4 e))
-        still x (Waits t w m no) = elim (same_or_not t g) [
+        still x (Waits t w m never) = elim (same_or_not t g) [
           | inl e ↦ (
               let same : w.list ≡ woken = same_item q.waiters.items g w.list woken (rw e at w.has) takes.was in
               inr (record { place = w.place; behind = omega arith; at = rw (← same) w.at }))
-          | inr ne ↦ inl (Waits t (record { list = w.list; place = w.place; has = takes.others t ne ∙ w.has; at = w.at }) m (λ p. elim (in_order t p) [ inl s ↦ ne s | inr s ↦ no s ]))
+          | inr ne ↦ inl (Waits t (record { list = w.list; place = w.place; has = takes.others t ne ∙ w.has; at = w.at }) m (λ p. elim (in_order t p) [ inl s ↦ ne s | inr s ↦ never s ]))
         ]
-        still x (Empty no) = inl (Empty no)
+        still x (Empty never) = inl (Empty never)
 
   -- a woken group is looked at
   pub looked_at : (q q' : Queue) (woken : List ℕ) (at x : ℕ) → AllStandBut L M q woken at → slice_get woken at ≡ Some x → AlsoStands L M q q' x → AllStandBut L M q' woken (at + 1)
@@ -370,8 +392,8 @@ module _ (L M : List (Vec ℕ Global)) (can : CanOrder L M) where
     from : (n : ℕ) → ((g f : ℕ) → g < n → FirstOf M g f → IsPlaced q.placed.items g) → (g f : ℕ) → g < suc n → FirstOf M g f → Stand L M q g → IsPlaced q.placed.items g
     from n lower g f lt first (Placed p) = p
     from n lower g f lt first (Ready a e) = absurd (let z : None ≡ Some g = sym (none a) ∙ e in cc)
-    from n lower g f lt first (Waits t w m no) = absurd (let k = can.known g t m in let less = can.falls g t m in no (lower t k.0 (omega arith) k.1))
-    from n lower g f lt first (Empty no) = absurd (no f first)
+    from n lower g f lt first (Waits t w m never) = absurd (let k = can.known g t m in let less = can.falls g t m in never (lower t k.0 (omega arith) k.1))
+    from n lower g f lt first (Empty never) = absurd (never f first)
     placed : (n g f : ℕ) → g < n → FirstOf M g f → IsPlaced q.placed.items g
     placed zero g f lt first = absurd (omega arith)
     placed (suc n) g f lt first = from n (placed n) g f lt first (below.stand g (first_within g f first))
@@ -392,6 +414,22 @@ started L M q s1 s2 s3 zeros none new empty start = record {
       once = λ i j g e f. absurd cc;
       known = λ i g e. absurd cc;
       ready = λ i g h e m. absurd cc;
-      earliest = λ i g h f e at no all a b. absurd cc;
+      earliest = λ i g h f e at never all a b. absurd cc;
     });
   }
+
+-- the loop over what a group mentions
+pub all_none : (placed : List Bool) (mentioned : List ℕ) (from : ℕ) → AllPlaced placed mentioned from from
+all_none placed mentioned from = record { each = λ p h le lt e. absurd (omega arith) }
+
+pub all_more : (placed : List Bool) (mentioned : List ℕ) (from place target : ℕ) → AllPlaced placed mentioned from place → slice_get mentioned place ≡ Some target → IsPlaced placed target → AllPlaced placed mentioned from (place + 1)
+all_more placed mentioned from place target all at is = record { each = λ p h le lt e. elim (same_or_not p place) [
+  | inl s ↦ (let same : h ≡ target = same_item mentioned place h target (rw s at e) at in rw same is)
+  | inr ne ↦ all.each p h le (let z = ne in omega arith) e
+] }
+
+pub found_unplaced : (placed : List Bool) (mentioned : List ℕ) (from place target : ℕ) → AllPlaced placed mentioned from place → slice_get mentioned place ≡ Some target → (IsPlaced placed target → ⊥) → IsUnplaced placed mentioned from place
+found_unplaced placed mentioned from place target all at never = record { target = target; at = at; unplaced = never; before = λ p h le lt e. all.each p h le lt e }
+
+pub all_less : (placed : List Bool) (mentioned : List ℕ) (from to place : ℕ) → to ≤ place → AllPlaced placed mentioned from place → AllPlaced placed mentioned from to
+all_less placed mentioned from to place le all = record { each = λ p h low lt e. all.each p h low (omega arith) e }

@@ -101,3 +101,7 @@ pub record AreUnset (flags : List Bool) (count : ℕ) : Type 0 where
 pub record AddsLink (old new : Links) (from to : ℕ) : Type 0 where
   pub itself : from ≡ to → (new.lists.items ≡ old.lists.items) × (new.recursive.items ≡ slice_set old.recursive.items from true)
   pub other : (from ≡ to → ⊥) → Adds old.lists.items new.lists.items from to × (new.recursive.items ≡ old.recursive.items)
+
+-- each number of the list is below the end
+pub record AllBelow (list : List ℕ) (end : ℕ) : Type 0 where
+  pub each : (place number : ℕ) → slice_get list place ≡ Some number → number < end

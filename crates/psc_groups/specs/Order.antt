@@ -129,3 +129,25 @@ pub record StandsFrom (xs : List ℕ) (from x : ℕ) : Type 0 where
 pub record AllStandBut (links members : List (Vec ℕ Global)) (q : Queue) (woken : List ℕ) (from : ℕ) : Type 0 where
   pub stand : (g : ℕ) → g < length links → Stand links members q g ⊎ StandsFrom woken from g
   pub within : (p g : ℕ) → slice_get woken p ≡ Some g → g < length links
+
+-- all that a group mentions is placed
+pub record AllLinksPlaced (links : List (Vec ℕ Global)) (q : Queue) (group : ℕ) : Type 0 where
+  pub each : (h : ℕ) → Mentions links group h → IsPlaced q.placed.items h
+
+-- the place is one of a group's list
+pub record IsPlaceOf (links : List (Vec ℕ Global)) (group place : ℕ) : Type 0 where
+  pub within : (list : Vec ℕ Global) → slice_get links group ≡ Some list → place < length list.items
+
+-- the group mentions that one at the place
+pub record TargetAt (links : List (Vec ℕ Global)) (group place target : ℕ) : Type 0 where
+  pub list : Vec ℕ Global
+  pub has : slice_get links group ≡ Some list
+  pub at : slice_get list.items place ≡ Some target
+
+-- at the place stands the first group that is mentioned and not placed
+pub record WaitsAt (links : List (Vec ℕ Global)) (q : Queue) (group place : ℕ) : Type 0 where
+  pub list : Vec ℕ Global
+  pub from : ℕ
+  pub has : slice_get links group ≡ Some list
+  pub start : slice_get q.passed.items group ≡ Some from
+  pub un : IsUnplaced q.placed.items list.items from place

@@ -5,6 +5,7 @@
 //! earliest declaration among those whose mentions are all placed.
 #![tactic(auto)]
 
+mod declared;
 mod groups;
 mod order;
 mod walk;
@@ -12,4 +13,5 @@ mod walk;
 #[cfg(test)]
 mod tests;
 
+pub use declared::are_declared;
 pub use groups::{BindingGroup, binding_groups};

@@ -8,7 +8,7 @@ ghost use Rattle.std.specs.Prelude.{◌≡◌, ◌≤◌, ◌<◌, ◌×◌, ◌
 ghost use Rattle.std.specs.Ordering.{nat_cmp};
 ghost use Rattle.std.specs.BTreeMap.{get};
 ghost use Rattle.psc_groups.specs.Graph.{Mentions};
-ghost use Rattle.psc_groups.specs.Order.{FirstOf, CanOrder, IsOrder, IsPlaced, IsQueue, Stand, StandBelow, AlsoStands, IsNext, IsUnplaced, AllPlaced, Adds, Takes, AddsReady, TakesReady};
+ghost use Rattle.psc_groups.specs.Order.{FirstOf, CanOrder, IsOrder, IsPlaced, IsQueue, Stand, StandBelow, AlsoStands, IsNext, IsUnplaced, AllPlaced, Adds, Takes, AddsReady, TakesReady, AllLinksPlaced, WaitsAt, IsPlaceOf, TargetAt};
 
 use psc_text::NoMemory;
 use std::alloc::Global;
@@ -56,9 +56,9 @@ impl Queue {
         ensures queue { OnOk result (IsQueue links.now members.now self.new) }
         ensures stands { OnOk result (AlsoStands links.now members.now self.old self.new group) }
     {
-        match first_unplaced(&self.placed, &links[group], self.passed[group]) {
+        match self.waits_at(members, links, group) {
             Some(place) => {
-                let target = links[group][place];
+                let target = target_at(links, group, place);
                 self.passed[group] = place;
                 add_to(&mut self.waiters, target, group)?;
                 Ok(())
@@ -70,6 +70,17 @@ impl Queue {
                 Ok(())
             }
         }
+    }
+
+    /// The place in a group's list of the first group that it mentions and that is not placed.
+    fn waits_at(&self, members: &[Vec<u32>], links: &[Vec<usize>], group: usize) -> Option<usize>
+        requires can { CanOrder links.now members.now }
+        requires queue { IsQueue links.now members.now self.now }
+        requires within { group < length links.now }
+        ensures { MatchOption result (AllLinksPlaced links.now self.now group) (WaitsAt links.now self.now group) }
+    {
+        let from = self.passed[group];
+        first_unplaced(&self.placed, &links[group], from)
     }
 
     /// Places a group, unless it is placed, and looks again at those that waited on it.
@@ -92,6 +103,16 @@ impl Queue {
         }
         Ok(())
     }
+}
+
+/// A group that another one mentions, by its place.
+fn target_at(links: &[Vec<usize>], group: usize, place: usize) -> usize
+    requires group_within { group < length links.now }
+    requires place_within { IsPlaceOf links.now group place }
+    ensures { TargetAt links.now group place result }
+{
+    let mentioned = &links[group];
+    mentioned[place]
 }
 
 /// The first place, from one on, of a mentioned group that is not placed.

@@ -140,7 +140,7 @@ impl Signed {
     /// The variables for a clause.
     pub(crate) fn vars_of(&self, clause: &Clause) -> &[Text] {
         match &self.name {
-            Some(name) if name.same(&clause.name.name.0) => &self.vars,
+            Some(name) if name.same(&clause.name.name.0) => self.vars.as_slice(),
             _ => &[],
         }
     }

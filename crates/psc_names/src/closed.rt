@@ -5,10 +5,9 @@
 //! as the interface has them: written ones keep their synonyms.
 
 use crate::keys::{Area, Key};
-use crate::stop::{Problem, Stop, error_of};
+use crate::stop::{Problem, error_of};
 use psc_error::{Code, PsError};
 use psc_externs::{ClassRow, Externs, ExportRow, FixityRow, OpSpace};
-use psc_items::SharedItems;
 use psc_text::{ModuleName, NoMemory, Qualified, Span, Text};
 use psc_type::{Constraint, Ty};
 use std::alloc::Global;
@@ -245,7 +244,7 @@ impl<'a> Closing<'a> {
         }
         let comes_first = match &self.first {
             None => true,
-            Some(first) => (span, name) < (first.span, &first.name),
+            Some(first) => span < first.span || (span == first.span && *name < first.name),
         };
         if comes_first {
             self.first = Some(Lack { span, name: name.clone()? });

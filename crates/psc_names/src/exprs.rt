@@ -11,7 +11,7 @@ use crate::resolver::Resolver;
 use crate::stop::Stop;
 use crate::types::{label, typ};
 use psc_ast::{ChainStep, ExprTree, Field, Mention, TickStep, Update};
-use psc_text::{Ident, NoMemory, Qualified, Span};
+use psc_text::{NoMemory, Qualified, Span};
 use sqlite_items::{Boxed, Items};
 use std::alloc::Global;
 

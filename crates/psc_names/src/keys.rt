@@ -1,10 +1,8 @@
 //! The name spaces, and names in them.
 
-ghost use Rattle.std.specs.Prelude.{◌≡◌};
-
 use psc_externs::{Entity, Name, Space};
 use psc_text::{ModuleName, NoMemory, OpName, Qualified, Text};
-use std::alloc::{AllocError, Global};
+use std::alloc::Global;
 
 /// A name space. They are in the order of the words that interface files call them by.
 #[derive(Clone, Copy, Debug, PartialEq, Eq, PartialOrd, Ord)]
@@ -52,20 +50,6 @@ impl Key {
             area,
             name: name.clone()?,
             qualifier: None,
-        })
-    }
-}
-
-impl Clone for Key {
-    ghost is_clone = { λ key copy. copy ≡ key };
-
-    fn clone(&self) -> Result<Key, AllocError> {
-        let name = self.name.clone()?;
-        let qualifier = self.qualifier.clone()?;
-        Ok(Key {
-            area: self.area,
-            name,
-            qualifier,
         })
     }
 }

@@ -17,15 +17,12 @@ mod imports;
 mod keys;
 mod locals;
 mod own;
+mod phases;
 mod resolver;
 mod scope;
 mod stop;
 mod types;
-mod phases;
 mod world;
-
-#[cfg(test)]
-mod tests;
 
 pub use closed::exports_closed;
 pub use phases::{Resolved, resolve};

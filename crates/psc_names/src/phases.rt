@@ -3,7 +3,7 @@
 use crate::decls::all_decls;
 use crate::exports::{Exported, export_all};
 use crate::imports::import_all;
-use crate::keys::{Area, Key, written};
+use crate::keys::{Area, Key};
 use crate::own::own_names;
 use crate::resolver::Resolver;
 use crate::scope::Scope;
@@ -13,7 +13,7 @@ use psc_ast::{Decl, Fixities, Fixity, FixityDecl, Module, Side};
 use psc_error::PsError;
 use psc_externs::{Assoc, Externs, ExportRow, FixityRow, OpSpace, UseRow};
 use psc_items::SharedItems;
-use psc_text::{ModuleName, NoMemory, OpName, Qualified, Span, Text};
+use psc_text::{ModuleName, NoMemory, Qualified, Span, Text};
 use sqlite_items::Items;
 use std::alloc::Global;
 use std::collections::BTreeSet;
@@ -24,7 +24,7 @@ pub struct Resolved {
     /// Local names have no module; each other mention has the one that declares it. A call of a name that is not written
     /// stands where a form needs one: for `-`, at the values of statements, at the steps or the result of an `ado`.
     pub module: Module,
-    /// The operators that the module mentions, each by its true name: its module, a dot and the operator.
+    /// The operators that the module declares, and those that it mentions.
     pub fixities: Fixities,
     /// The written mentions of names that some module declares, in the order of the source.
     pub uses: Vec<UseRow>,
@@ -95,12 +95,13 @@ fn fixities_of(
     let mut rows = Vec::new(alloc);
     for decl in decls {
         if let Decl::Fixity(fixity) = decl {
-            add_own(alloc, &mut rows, own, fixity)?;
+            add_own(&mut rows, own, fixity)?;
         }
     }
-    for module in &modules_of(alloc, own, operators)? {
+    let modules = modules_of(alloc, own, operators)?;
+    for module in modules.iter() {
         for row in world.fixities(env, module) {
-            add_foreign(alloc, &mut rows, module, row, operators)?;
+            add_foreign(&mut rows, module, row, operators)?;
         }
     }
     Ok(rows)
@@ -119,15 +120,14 @@ fn modules_of(alloc: Global, own: &ModuleName, operators: &BTreeSet<Key>) -> Res
     Ok(modules)
 }
 
-/// The true name of an operator as one text.
-fn true_name(alloc: Global, module: &ModuleName, op: &Text) -> Result<OpName, NoMemory> {
-    let name = Qualified { module: Some(module.clone()?), name: op.clone()? };
-    Ok(OpName(written(alloc, &name)?))
+/// The true name of an operator.
+fn true_name(module: &ModuleName, op: &Text) -> Result<Qualified, NoMemory> {
+    Ok(Qualified { module: Some(module.clone()?), name: op.clone()? })
 }
 
-fn add_own(alloc: Global, rows: &mut Vec<Fixity>, own: &ModuleName, fixity: &FixityDecl) -> Result<(), NoMemory> {
+fn add_own(rows: &mut Vec<Fixity>, own: &ModuleName, fixity: &FixityDecl) -> Result<(), NoMemory> {
     rows.push(Fixity {
-        op: true_name(alloc, own, &fixity.op.op.0)?,
+        op: true_name(own, &fixity.op.op.0)?,
         target: fixity.target.name.clone()?,
         side: fixity.side,
         power: fixity.power,
@@ -137,7 +137,6 @@ fn add_own(alloc: Global, rows: &mut Vec<Fixity>, own: &ModuleName, fixity: &Fix
 }
 
 fn add_foreign(
-    alloc: Global,
     rows: &mut Vec<Fixity>,
     module: &ModuleName,
     row: &FixityRow,
@@ -148,7 +147,7 @@ fn add_foreign(
     let key = Key { area, name: row.op.0.clone()?, qualifier: Some(module.clone()?) };
     if operators.contains(&key) {
         rows.push(Fixity {
-            op: true_name(alloc, module, &row.op.0)?,
+            op: true_name(module, &row.op.0)?,
             target: Qualified {
                 module: Some(row.target.module.clone()?),
                 name: row.target.name.text().clone()?,

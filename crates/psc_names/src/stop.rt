@@ -52,7 +52,7 @@ fn one_part(alloc: Global, name: &Text) -> Result<Vec<Text>, NoMemory> {
 }
 
 /// A name that has two true names: it and their modules, which come ascending.
-pub(crate) fn conflict<'a>(
+pub(crate) fn conflict(
     alloc: Global,
     code: Code,
     name: &Text,

@@ -1,6 +1,6 @@
 //! Expressions without chains.
 
-use crate::binders::{binder, binders_behind};
+use crate::binders::binders_behind;
 use crate::binds::{alternatives, bind_list, statements};
 use crate::build::{Chain, in_order, tree_of};
 use crate::size::{Size, levels};
@@ -40,8 +40,11 @@ pub(crate) fn expr(state: &mut Bracketing, tree: ExprTree, fuel: u32, size: &mut
         | ExprTree::Boolean { .. }
         | ExprTree::Variable { .. }
         | ExprTree::Constructor { .. }
-        | ExprTree::Operator { .. }
         | ExprTree::Hole { .. } => Ok(tree),
+        ExprTree::Operator { name, span } => {
+            let name = state.target(&name, false)?;
+            Ok(ExprTree::Operator { name, span })
+        }
     }
 }
 

@@ -26,8 +26,8 @@ pub(crate) struct Refusal {
 #[derive(Debug, Drop)]
 pub(crate) struct Bracketing {
     pub alloc: Global,
-    values: BTreeMap<Text, Known>,
-    types: BTreeMap<Text, Known>,
+    values: BTreeMap<Qualified, Known>,
+    types: BTreeMap<Qualified, Known>,
     /// The first chain of the item that has no right tree.
     pub refusal: Option<Refusal>,
     /// Whether a chain of the item is deeper than any tree may be.
@@ -46,7 +46,7 @@ impl Bracketing {
                 },
                 target: row.target.clone()?,
             };
-            let key = row.op.0.clone()?;
+            let key = row.op.clone()?;
             if row.of_types {
                 let _ = types.insert(key, known)?;
             } else {
@@ -62,15 +62,18 @@ impl Bracketing {
         })
     }
 
-    /// The operator that a mention names, by its true name.
-    pub(crate) fn known(&self, mention: &Mention, of_types: bool) -> Result<Option<&Known>, NoMemory> {
-        let name = true_name(self.alloc, mention)?;
-        Ok(if of_types { self.types.get(&name) } else { self.values.get(&name) })
+    /// The operator that a mention names.
+    pub(crate) fn known(&self, mention: &Mention, of_types: bool) -> Option<&Known> {
+        if of_types {
+            self.types.get(&mention.name)
+        } else {
+            self.values.get(&mention.name)
+        }
     }
 
     /// The mention of an operator's target in the place of the operator. An operator that is not known stands for itself.
     pub(crate) fn target(&self, mention: &Mention, of_types: bool) -> Result<Mention, NoMemory> {
-        let name = match self.known(mention, of_types)? {
+        let name = match self.known(mention, of_types) {
             Some(known) => known.target.clone()?,
             None => mention.name.clone()?,
         };
@@ -84,7 +87,7 @@ impl Bracketing {
     pub(crate) fn operators(&self, mentions: &[Mention], of_types: bool) -> Result<Vec<Operator>, NoMemory> {
         let mut operators = Vec::new(self.alloc);
         for mention in mentions {
-            operators.push(match self.known(mention, of_types)? {
+            operators.push(match self.known(mention, of_types) {
                 Some(known) => known.operator,
                 None => TIGHTEST,
             })?;
@@ -128,17 +131,5 @@ fn is_infix(operators: &[Operator], at: usize) -> bool {
     match operators.get(at) {
         Some(operator) => matches!(operator.side, Side::Neither),
         None => false,
-    }
-}
-
-/// The module of an operator, a dot and the operator as one text.
-fn true_name(alloc: Global, mention: &Mention) -> Result<Text, NoMemory> {
-    match &mention.name.module {
-        Some(module) => {
-            let (before, behind) = (module.as_str(), mention.name.name.as_str());
-            let text = format!(in alloc; "{before}.{behind}")?;
-            Text::new(alloc, text.as_str())
-        }
-        None => Ok(mention.name.name.clone()?),
     }
 }

@@ -1,8 +1,6 @@
-use Rattle.psc_brackets.proofs.Waiting.{fold_top, ended}
+use Rattle.std.proofs.Common.{rules}
+use Rattle.psc_brackets.proofs.Waiting.{last_leaf}
 use Rattle.psc_brackets.proofs.chain.finish.Goals as goal
 
-pub loop-operator-preserved : goal.loop-operator-preserved
-loop-operator-preserved c = fold_top _ _ _ _ _ _ _ c.loop-operator.invariant c.in-Some.ensures c.in_ok-push.ensures.items
-
-pub returns : goal.returns
-returns c = ended _ _ _ c.loop-operator.invariant c.in-None.ensures.0
+pub end_all-requires : goal.end_all-requires
+end_all-requires c = last_leaf _ _ _ _ c.requires (search rules)
