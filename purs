@@ -3,7 +3,7 @@
 # Where the program is missing or older than a source, the toolchain proves and builds it first.
 set -euo pipefail
 
-top=$(cd "$(dirname "${BASH_SOURCE[0]}")" && pwd)
+top=$(cd "$(dirname "$(readlink -f "${BASH_SOURCE[0]}")")" && pwd)
 crate=$top/crates/purs
 program=$crate/out/purs
 

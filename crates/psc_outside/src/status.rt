@@ -22,6 +22,10 @@ pub enum Status {
     NoMemory,
     /// A limit on files or sizes was passed.
     Limit,
+    /// The name that is to be evaluated is that of no value.
+    UnknownValue,
+    /// An evaluation stopped before it had a value.
+    Stopped,
 }
 
 impl Status {
@@ -39,6 +43,8 @@ impl Status {
             Status::NotServed => 5,
             Status::NoMemory => 6,
             Status::Limit => 7,
+            Status::UnknownValue => 8,
+            Status::Stopped => 9,
         }
     }
 }

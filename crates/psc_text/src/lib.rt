@@ -17,7 +17,7 @@ mod text;
 pub use bytes::Bytes;
 pub use letters::{begins_lower, begins_upper, goes_on};
 pub use memory::NoMemory;
-pub use module_name::{ModuleName, read_module_name};
+pub use module_name::{ModuleName, is_builtin, read_module_name};
 pub use names::{Ident, Label, OpName, Qualified};
 pub use span::Span;
 pub use text::Text;

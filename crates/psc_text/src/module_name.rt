@@ -1,6 +1,6 @@
 //! The names of modules.
 
-ghost use Rattle.std.specs.Prelude.{◌≡◌, ◌↔◌, IsTrue, IsSome, IfOk, IfSome, List, ℕ, Some, nat_eq, refl};
+ghost use Rattle.std.specs.Prelude.{◌≡◌, ◌↔◌, IsTrue, IsSome, IfOk, IfSome, List, ℕ, Some, nat_eq, refl, codes};
 ghost use Rattle.std.specs.Ordering.{nat_cmp};
 ghost use Rattle.std.specs.Hash as fed;
 ghost use Rattle.std.specs.Cmp.Lexicographic.{pointwise, slice_cmp, nat_list_eq_equiv, nat_list_cmp_total, texts_ties, texts_po};
@@ -71,6 +71,15 @@ pub fn read_module_name(alloc: Global, text: &str) -> Result<Option<ModuleName>,
     } else {
         Ok(None)
     }
+}
+
+/// Whether the module is built into the language: `Prim` alone, and none whose name begins with it.
+///
+/// Every rule that leaves out `Prim` asks this.
+pub fn is_builtin(name: &ModuleName) -> bool
+    ensures { IsTrue result ↔ (name.now ≡ codes "Prim") }
+{
+    name.as_str() == "Prim"
 }
 
 /// Whether a name begins behind this letter, where one begins at the letter or goes on with it.

@@ -53,6 +53,23 @@ fn names_begin_and_go_on_by_general_category(rt: HostRuntime) -> Result<(), Fail
 }
 
 #[test]
+fn the_module_prim_alone_is_built_in(rt: HostRuntime) -> Result<(), Fail> {
+    let rows = [
+        ("Prim", true),
+        ("Prim.Row", false),
+        ("Prims", false),
+        ("Pri", false),
+        ("Data.Prim", false),
+        ("M", false),
+    ];
+    for (text, is_builtin_module) in rows {
+        let name = read_module_name(rt.alloc(), text)?.ok_or("no module's name")?;
+        assert_eq!(rt; is_builtin(&name), is_builtin_module, "{text}");
+    }
+    Ok(())
+}
+
+#[test]
 fn module_names_are_ordered_by_the_bytes_of_their_texts(rt: HostRuntime) -> Result<(), Fail> {
     let primed = read_module_name(rt.alloc(), "A'")?.ok_or("A'")?;
     let dotted = read_module_name(rt.alloc(), "A.B")?.ok_or("A.B")?;

@@ -157,7 +157,7 @@ fn files_give_their_status_report_and_text(rt: HostRuntime) -> Result<(), Fail> 
     Ok(())
 }
 
-/// Words over the file `Q.purs` that has no line, and the whole text that they lead to.
+/// Words over the file `P.purs` that has no line, and the whole text that they lead to.
 fn check_words(
     rt: &impl Abort,
     alloc: Global,
@@ -166,7 +166,7 @@ fn check_words(
     said: &str,
 ) -> Result<(), Fail> {
     let mut files = MemFiles::new(alloc, "/home")?;
-    files.hold(alloc, "Q.purs", b"".as_slice())?;
+    files.hold(alloc, "P.purs", b"".as_slice())?;
     let mut shelf = MemShelf::new(alloc);
     let mut out = MemSink::new(alloc);
     let answer = compiled(alloc, words, &mut files, &mut shelf, &mut out)?;
@@ -184,23 +184,23 @@ fn other_words_are_refused_and_an_absent_file_is_told(rt: HostRuntime) -> Result
     check_words(
         &rt,
         alloc,
-        ["build", "Q.purs"].as_slice(),
+        ["build", "P.purs"].as_slice(),
         2,
         "purs: bad words\n",
     )?;
     check_words(
         &rt,
         alloc,
-        ["compile", "Q.purs", "Q.purs"].as_slice(),
+        ["compile", "P.purs", "P.purs"].as_slice(),
         2,
         "purs: bad words\n",
     )?;
     check_words(
         &rt,
         alloc,
-        ["compile", "P.purs"].as_slice(),
+        ["compile", "Q.purs"].as_slice(),
         3,
-        "not found: P.purs\n",
+        "not found: Q.purs\n",
     )
 }
 
@@ -253,6 +253,7 @@ fn a_sink_that_fails_after_3_bytes_gives_4(rt: HostRuntime) -> Result<(), Fail> 
     let status = compiled(alloc, words.as_slice(), &mut files, &mut shelf, &mut out)?;
     assert_eq!(rt; status.number(), 4);
     assert!(rt; out.bytes() == b"mod".as_slice());
+    assert!(rt; shelf.held("M/corefn.json").is_some());
     let words = ["compile"];
     let mut out = MemSink::new(alloc);
     out.fail_after(3);

@@ -2,6 +2,7 @@
 
 ghost use Rattle.std.specs.Prelude.{◌≤◌, ◌^◌, length, IfOk};
 ghost use Rattle.psc_outside.specs.Contents.{IsInLimit};
+ghost use Rattle.purs.specs.Streams.{GivesAll};
 
 use psc_outside::{READ_LIMIT, ReadFile};
 use psc_text::{Bytes, NoMemory};
@@ -16,6 +17,7 @@ const PIECE: usize = 16 * 1024;
 /// `Failed` at an error other than an interruption, and where more than 1 GiB is left.
 pub fn read_whole<R: Read>(alloc: Global, from: &mut R) -> Result<ReadFile, NoMemory>
     ensures in_limit { IfOk result IsInLimit }
+    ensures all { IfOk result (λ r. GivesAll (R.remaining from.old) r) }
 {
     let mut bytes = Vec::new(alloc);
     let mut piece = [0u8; PIECE];

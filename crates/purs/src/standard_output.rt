@@ -1,6 +1,8 @@
 //! Standard output. It tells contracts nothing of what it took.
 
-ghost use Rattle.std.specs.Prelude.{false, []};
+ghost use Rattle.std.specs.Prelude.{◌≤◌, false, [], IfOk};
+ghost use Rattle.psc_outside.specs.Faults.{PutCounts};
+ghost use Rattle.purs.specs.Streams.{Takes};
 
 use crate::writing::write_whole;
 use psc_outside::{Put, Sink, count_put};
@@ -28,7 +30,11 @@ impl<W: Write + Drop> Sink for WriterSink<W> {
 
     ghost faults = { λ s. s.faults };
 
-    fn put(&mut self, _alloc: Global, piece: &[u8]) -> Result<Put, NoMemory> {
+    fn put(&mut self, _alloc: Global, piece: &[u8]) -> Result<Put, NoMemory>
+        ensures takes { IfOk result (λ r. Takes (W.contents self.old.writer) (W.contents self.new.writer) piece.now r) }
+        ensures counts { IfOk result (λ r. PutCounts self.old.faults self.new.faults r) }
+        ensures never_falls { self.old.faults ≤ self.new.faults }
+    {
         let answer = match write_whole(&mut self.writer, piece) {
             Ok(()) => Put::Done,
             Err(_) => Put::Failed,

@@ -1,0 +1,5 @@
+//! The CoreFn text, whole, against texts that were written by hand.
+
+mod forms;
+mod modules;
+mod trees;

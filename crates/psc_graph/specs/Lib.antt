@@ -1,4 +1,0 @@
-pub mod Tree
-pub mod Model
-pub mod General
-pub mod Explore
