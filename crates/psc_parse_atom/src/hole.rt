@@ -29,22 +29,22 @@ fn is_label(next: Next) -> bool {
 }
 
 /// Whether `{ label =` comes, which begins an update.
-pub fn begins_update(syms: &[Sym]) -> bool {
+fn begins_update(syms: &[Sym]) -> bool {
     sees(syms, Sign::LeftBrace)
         && is_label(peek_second(syms))
         && peek_third(syms) == Next::Token(Sign::Equals)
 }
 
 /// Whether `{ label {` comes, which begins an update inside an update.
-pub fn begins_nested_update(syms: &[Sym]) -> bool {
+fn begins_nested_update(syms: &[Sym]) -> bool {
     sees(syms, Sign::LeftBrace)
         && is_label(peek_second(syms))
         && peek_third(syms) == Next::Token(Sign::LeftBrace)
 }
 
-/// Whether an update comes, or one inside it at once.
-fn is_updated(syms: &[Sym]) -> bool {
-    begins_update(syms) || begins_nested_update(syms)
+/// Whether an update comes behind its subject. One whose first label is updated itself is a form of PureScript.
+pub fn update_comes(syms: &[Sym]) -> Result<bool, Fault> {
+    if begins_nested_update(syms) { Err(Fault::Outside) } else { Ok(begins_update(syms)) }
 }
 
 /// A `_` that no `.label` follows, if one may stand here. As the subject of an update it is a form of PureScript.
@@ -52,7 +52,7 @@ pub fn hole(alloc: Global, syms: &[Sym], holes: Holes) -> Parsed<'_, Boxed<ExprT
     let [first, rest @ ..] = syms else {
         return Err(Fault::Grammar);
     };
-    if is_updated(rest) {
+    if update_comes(rest)? {
         return Err(Fault::Outside);
     }
     match holes {

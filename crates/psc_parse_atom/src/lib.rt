@@ -11,6 +11,6 @@ mod make;
 mod token;
 
 pub use begin::{begins_part, is_operator, is_operator_alone};
-pub use hole::{Holes, bare_hole, begins_nested_update, begins_update, hole, is_field_hole, is_scrutinee_hole};
-pub use make::{access, boxed, made, minus_alone, ticked, typed};
-pub use token::{labels, token};
+pub use hole::{Holes, bare_hole, hole, is_field_hole, is_scrutinee_hole, update_comes};
+pub use make::{accessed, made, minus_alone, ticked, typed};
+pub use token::token;

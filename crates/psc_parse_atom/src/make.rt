@@ -1,11 +1,12 @@
 //! Trees out of parts that are read.
 
 use crate::hole::chain_has_hole;
-use psc_ast::{ExprTree, LabelAt, Mention};
+use crate::token::labels;
+use psc_ast::{ExprTree, Mention};
 use psc_lex::Sign;
 use psc_parse_base::{Fault, Next, Parsed, Sym, eat, expect, mention, peek, sees, span_of};
 use psc_parse_type::whole_type;
-use sqlite_items::{Boxed, Items};
+use sqlite_items::Boxed;
 use std::alloc::Global;
 
 /// The tree, boxed as other trees hold it, and what stands behind it.
@@ -20,13 +21,13 @@ pub fn boxed(alloc: Global, read: Parsed<'_, ExprTree>) -> Parsed<'_, Boxed<Expr
 }
 
 /// The subject with the labels behind it, if there are any; `syms` begins with the subject.
-pub fn access<'a>(
+pub fn accessed<'a>(
     alloc: Global,
     syms: &'a [Sym],
     subject: Boxed<ExprTree>,
-    labels: Items<LabelAt>,
     rest: &'a [Sym],
 ) -> Parsed<'a, Boxed<ExprTree>> {
+    let (labels, rest) = labels(alloc, rest)?;
     if labels.is_empty() {
         return Ok((subject, rest));
     }

@@ -3,7 +3,7 @@
 use crate::exprs::Exprs;
 use psc_ast::{ExprTree, Field, Update};
 use psc_lex::Sign;
-use psc_parse_atom::{Holes, access, bare_hole, begins_nested_update, begins_update, hole, is_field_hole, is_operator_alone, is_scrutinee_hole, labels, made, token};
+use psc_parse_atom::{Holes, accessed, bare_hole, hole, is_field_hole, is_operator_alone, is_scrutinee_hole, made, token, update_comes};
 use psc_parse_base::{Fault, Next, Parsed, Sym, eat, expect, label, mention, peek, sees, span_of};
 use sqlite_items::{Boxed, Items};
 use std::alloc::Global;
@@ -16,22 +16,17 @@ fn operator(alloc: Global, syms: &[Sym]) -> Parsed<'_, Boxed<ExprTree>> {
 }
 
 impl Exprs {
-    /// An expression of a list; a `_` alone where `holes` says so.
-    #[cycle(exprs)]
-    fn item<'a>(&self, syms: &'a [Sym], holes: Holes) -> Parsed<'a, Boxed<ExprTree>> {
-        if holes == Holes::Allowed && is_scrutinee_hole(syms) {
-            return hole(self.alloc, syms, holes);
-        }
-        self.expr(syms, Holes::Refused)
-    }
-
-    /// Expressions with commas between them.
+    /// Expressions with commas between them, each of which may be a `_` where `holes` says so.
     #[cycle(exprs)]
     pub(crate) fn listed<'a>(&self, syms: &'a [Sym], holes: Holes) -> Parsed<'a, Items<ExprTree>> {
         let mut found = Items::new(self.alloc);
         let mut rest = syms;
         for _turn in 0..syms.len() {
-            let (next, after) = self.item(rest, holes)?;
+            let (next, after) = if holes == Holes::Allowed && is_scrutinee_hole(rest) {
+                hole(self.alloc, rest, holes)?
+            } else {
+                self.expr(rest, Holes::Refused)?
+            };
             found.push(next.into_inner())?;
             let Some(after) = eat(after, Sign::Comma) else {
                 return Ok((found, after));
@@ -118,17 +113,6 @@ impl Exprs {
         }
     }
 
-    /// An atom and the labels behind it.
-    #[cycle(exprs)]
-    fn accessed<'a>(&self, syms: &'a [Sym]) -> Parsed<'a, Boxed<ExprTree>> {
-        if bare_hole(syms) {
-            return hole(self.alloc, syms, Holes::Refused);
-        }
-        let (subject, rest) = self.atom(syms)?;
-        let (labels, rest) = labels(self.alloc, rest)?;
-        access(self.alloc, syms, subject, labels, rest)
-    }
-
     #[cycle(exprs)]
     fn update<'a>(&self, syms: &'a [Sym]) -> Parsed<'a, Update> {
         let (label, rest) = label(self.alloc, syms)?;
@@ -162,11 +146,12 @@ impl Exprs {
     /// An atom with its labels and its update, if one comes.
     #[cycle(exprs)]
     pub(crate) fn updated<'a>(&self, syms: &'a [Sym]) -> Parsed<'a, Boxed<ExprTree>> {
-        let (subject, rest) = self.accessed(syms)?;
-        if begins_nested_update(rest) {
-            return Err(Fault::Outside);
+        if bare_hole(syms) {
+            return hole(self.alloc, syms, Holes::Refused);
         }
-        if !begins_update(rest) {
+        let (atom, rest) = self.atom(syms)?;
+        let (subject, rest) = accessed(self.alloc, syms, atom, rest)?;
+        if !update_comes(rest)? {
             return Ok((subject, rest));
         }
         let (updates, rest) = self.updates(expect(rest, Sign::LeftBrace)?)?;

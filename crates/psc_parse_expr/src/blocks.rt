@@ -32,13 +32,7 @@ fn begins_pattern(syms: &[Sym]) -> bool {
 }
 
 impl Exprs {
-    #[cycle(exprs)]
-    fn alt<'a>(&self, syms: &'a [Sym]) -> Parsed<'a, Alt> {
-        let (binders, rest) = list(self.alloc, syms)?;
-        let (rhs, rest) = self.rhs(rest, Sign::Arrow)?;
-        Ok((Alt { binders, rhs, span: span_of(syms, rest) }, rest))
-    }
-
+    /// The block of a `case`.
     #[cycle(exprs)]
     pub(crate) fn alts<'a>(&self, syms: &'a [Sym]) -> Parsed<'a, Items<Alt>> {
         let mut found = Items::new(self.alloc);
@@ -47,8 +41,9 @@ impl Exprs {
             if !more {
                 return Ok((found, rest));
             }
-            let (next, after) = self.alt(rest)?;
-            found.push(next)?;
+            let (binders, after) = list(self.alloc, rest)?;
+            let (rhs, after) = self.rhs(after, Sign::Arrow)?;
+            found.push(Alt { binders, rhs, span: span_of(rest, after) })?;
             (more, rest) = goes_on(after)?;
         }
         if more { Err(Fault::Grammar) } else { Ok((found, rest)) }
@@ -63,19 +58,14 @@ impl Exprs {
         Ok((Clause { name, arguments, rhs, span: span_of(syms, rest) }, rest))
     }
 
-    /// A binder and its right side.
-    #[cycle(exprs)]
-    fn pattern<'a>(&self, syms: &'a [Sym]) -> Parsed<'a, Bind> {
-        let (binder, rest) = one_binder(self.alloc, syms)?;
-        let (rhs, rest) = self.rhs(rest, Sign::Equals)?;
-        Ok((Bind::Value { binder: binder.into_inner(), rhs, span: span_of(syms, rest) }, rest))
-    }
-
-    /// A local binding: what begins with a lower name and no `@` is a signature or a clause.
+    /// A local binding: what begins with a lower name and no `@` is a signature or a clause, and any other a pattern.
     #[cycle(exprs)]
     fn bind<'a>(&self, syms: &'a [Sym]) -> Parsed<'a, Bind> {
         if begins_pattern(syms) {
-            return self.pattern(syms);
+            let (binder, rest) = one_binder(self.alloc, syms)?;
+            let (rhs, rest) = self.rhs(rest, Sign::Equals)?;
+            let (binder, span) = (binder.into_inner(), span_of(syms, rest));
+            return Ok((Bind::Value { binder, rhs, span }, rest));
         }
         if peek_second(syms) == Next::Token(Sign::DoubleColon) {
             return local_sig(self.alloc, syms);
@@ -84,28 +74,24 @@ impl Exprs {
         Ok((Bind::Clause(clause), rest))
     }
 
-    #[cycle(exprs)]
-    fn binds<'a>(&self, syms: &'a [Sym]) -> Parsed<'a, Items<Bind>> {
-        let mut found = Items::new(self.alloc);
-        let (mut more, mut rest) = opens_block(syms)?;
-        for _turn in 0..syms.len() {
-            if !more {
-                return Ok((found, rest));
-            }
-            let (next, after) = self.bind(rest)?;
-            found.push(next)?;
-            (more, rest) = goes_on(after)?;
-        }
-        if more { Err(Fault::Grammar) } else { Ok((found, rest)) }
-    }
-
     /// The block of a `let` or `where` inside an expression.
     #[cycle(exprs)]
     pub(crate) fn locals<'a>(&self, syms: &'a [Sym]) -> Parsed<'a, Items<Bind>> {
         if self.depth == 0 {
             return Err(Fault::Grammar);
         }
-        Exprs { alloc: self.alloc, depth: self.depth - 1 }.binds(syms)
+        let deeper = Exprs { alloc: self.alloc, depth: self.depth - 1 };
+        let mut found = Items::new(self.alloc);
+        let (mut more, mut rest) = opens_block(syms)?;
+        for _turn in 0..syms.len() {
+            if !more {
+                return Ok((found, rest));
+            }
+            let (next, after) = deeper.bind(rest)?;
+            found.push(next)?;
+            (more, rest) = goes_on(after)?;
+        }
+        if more { Err(Fault::Grammar) } else { Ok((found, rest)) }
     }
 
     /// A `let` that begins a statement; with an `in` it is an expression.

@@ -64,23 +64,18 @@ impl Exprs {
         Ok((Branch { body, locals }, end))
     }
 
-    #[cycle(exprs)]
-    fn guard<'a>(&self, syms: &'a [Sym], by: Sign) -> Parsed<'a, Guard> {
-        let (tests, rest) = self.tests(expect(syms, Sign::Bar)?)?;
-        let (branch, rest) = self.branch(rest, by)?;
-        Ok((Guard { tests, branch, span: span_of(syms, rest) }, rest))
-    }
-
+    /// Guards, as many as come.
     #[cycle(exprs)]
     fn guards<'a>(&self, syms: &'a [Sym], by: Sign) -> Parsed<'a, Items<Guard>> {
         let mut found = Items::new(self.alloc);
         let mut rest = syms;
         for _turn in 0..syms.len() {
-            if !sees(rest, Sign::Bar) {
+            let Some(after) = eat(rest, Sign::Bar) else {
                 return Ok((found, rest));
-            }
-            let (next, after) = self.guard(rest, by)?;
-            found.push(next)?;
+            };
+            let (tests, after) = self.tests(after)?;
+            let (branch, after) = self.branch(after, by)?;
+            found.push(Guard { tests, branch, span: span_of(rest, after) })?;
             rest = after;
         }
         Ok((found, rest))
