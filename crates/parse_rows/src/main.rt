@@ -1,14 +1,17 @@
 //! Reads rows of a source and the tree or error line that it must give, and example modules that must parse whole.
 //!
 //! `rows.txt`: a line `# name` begins a row; lines `|text` are its source; then `= tree`, `@ tree with places` or
-//! `! error line` says what the source must give. `examples.txt` names a file in each line.
-//! Printed are the rows that differ, the examples with their declarations, and the counts.
+//! `! error line` says what the source must give. `parts.txt`: a line `kind want text` says of a type, an expression or a
+//! binder whether the text is one, or how deep it nests. `examples.txt` names a file in each line.
+//! Printed are the rows and parts that differ, their counts, and the examples with their declarations.
 #![tactic(auto)]
 
 use psc_ast::Module;
 use psc_ast_text::module_text;
 use psc_error::{PsError, error_line};
+use psc_lex::lex_layout;
 use psc_parse_decl::{parse, parse_bytes};
+use psc_parse_expr::{nesting, parse_binder, parse_expr, parse_type};
 use psc_text::NoMemory;
 use std::alloc::Global;
 use std::{fs, io};
@@ -111,6 +114,48 @@ fn read_rows(alloc: Global, text: &str) -> Result<String, NoMemory> {
     Ok(format!(in alloc; "{}{} rows, {} differ", report, count, differing)?)
 }
 
+/// What a part of the grammar says of a text: `yes` or `no`, or how deep it nests.
+fn part_text(alloc: Global, kind: &str, text: &str) -> Result<String, NoMemory> {
+    let toks = lex_layout(alloc, text)?;
+    let is_whole = match kind {
+        "type" => parse_type(alloc, toks.as_slice())?.is_some(),
+        "expr" => parse_expr(alloc, toks.as_slice())?.is_some(),
+        "binder" => parse_binder(alloc, toks.as_slice())?.is_some(),
+        _ => {
+            let depth = nesting(alloc, toks.as_slice())?;
+            return Ok(format!(in alloc; "{}", depth)?);
+        }
+    };
+    Ok(String::from_str(alloc, if is_whole { "yes" } else { "no" })?)
+}
+
+/// What is printed of a line `kind want text`: nothing where the part says what it must.
+fn part_report(alloc: Global, line: &str) -> Result<String, NoMemory> {
+    let Some((kind, rest)) = line.split_once(' ') else {
+        return Ok(format!(in alloc; "no part: {}\n", line)?);
+    };
+    let (want, text) = rest.split_once(' ').unwrap_or((rest, ""));
+    let got = part_text(alloc, kind, text)?;
+    if got.as_str() == want {
+        Ok(String::new(alloc))
+    } else {
+        Ok(format!(in alloc; "{} of {}: got {}, want {}\n", kind, text, got, want)?)
+    }
+}
+
+fn read_parts(alloc: Global, text: &str) -> Result<String, NoMemory> {
+    let mut out = String::new(alloc);
+    let mut count: u32 = 0;
+    for line in text.lines() {
+        let report = part_report(alloc, line)?;
+        out.push_str(report.as_str())?;
+        count = count.saturating_add(1);
+    }
+    let end = format!(in alloc; "{} parts", count)?;
+    out.push_str(end.as_str())?;
+    Ok(out)
+}
+
 /// How many declarations an example has, or its error line.
 fn example_text(alloc: Global, name: &str, text: &str) -> Result<String, NoMemory> {
     match parse(alloc, text)? {
@@ -142,6 +187,8 @@ fn main(rt: HostRuntime) -> io::Result<()> {
     rt.println(or_memory(not_text(alloc), alloc))?;
     let rows = fs::read_to_string(&rt, "rows.txt")?;
     rt.println(or_memory(read_rows(alloc, rows.as_str()), alloc))?;
+    let parts = fs::read_to_string(&rt, "parts.txt")?;
+    rt.println(or_memory(read_parts(alloc, parts.as_str()), alloc))?;
     let names = fs::read_to_string(&rt, "examples.txt")?;
     for name in names.lines() {
         let text = fs::read_to_string(&rt, name)?;
