@@ -6,11 +6,11 @@
 #![tactic(auto)]
 
 mod begin;
-mod hole;
+mod leaf;
 mod make;
-mod token;
+mod underscore;
 
 pub use begin::{begins_part, is_operator, is_operator_alone};
-pub use hole::{Holes, bare_hole, hole, is_field_hole, is_scrutinee_hole, update_comes};
+pub use leaf::token;
 pub use make::{accessed, made, minus_alone, ticked, typed};
-pub use token::token;
+pub use underscore::{Holes, bare_hole, hole, is_field_hole, is_scrutinee_hole, update_comes};

@@ -1,7 +1,7 @@
 //! Trees out of parts that are read.
 
-use crate::hole::chain_has_hole;
-use crate::token::labels;
+use crate::underscore::chain_has_hole;
+use crate::leaf::labels;
 use psc_ast::{ExprTree, Mention};
 use psc_lex::Sign;
 use psc_parse_base::{Fault, Next, Parsed, Sym, eat, expect, mention, peek, sees, span_of};
