@@ -19,6 +19,16 @@ abbrev pub longest : State → List ℕ → Option Piece
 longest from [] = None
 longest from (c ∷ cs) = elim (step from c) [ Some next ↦ longer (accepts next) (longest next cs) | None ↦ None ]
 
+-- 45 is '-' and 125 is '}': whether a block comment ends here
+abbrev pub ends_comment : List ℕ → Bool
+ends_comment [] = false
+ends_comment (c ∷ []) = false
+ends_comment (c ∷ d ∷ cs) = cond (c == 45) (d == 125) false
+
+-- a block comment that goes on with these characters has no end
+abbrev pub NoEnd : List ℕ → Type 0
+NoEnd z = longest State.BlockComment z ≡ None
+
 -- a character that begins no spelling
 abbrev pub wrong : Piece
 wrong = piece Form.Wrong 1
