@@ -17,14 +17,23 @@ pub fn binder(out: &mut Printer, tree: &BinderTree) -> Result<(), NoMemory> {
             }
             out.close()
         }
-        BinderTree::Operation { op, left, right, span } => {
+        BinderTree::Operation {
+            op,
+            left,
+            right,
+            span,
+        } => {
             out.open("op", *span)?;
             out.mention(op)?;
             binder(out, left.get())?;
             binder(out, right.get())?;
             out.close()
         }
-        BinderTree::Constructor { name, arguments, span } => {
+        BinderTree::Constructor {
+            name,
+            arguments,
+            span,
+        } => {
             if arguments.is_empty() {
                 return out.mention(name);
             }
@@ -46,13 +55,20 @@ pub fn binder(out: &mut Printer, tree: &BinderTree) -> Result<(), NoMemory> {
         BinderTree::Integer { value, .. } => out.integer(*value),
         BinderTree::Str { value, .. } => out.quoted(value.as_str()),
         BinderTree::Character { value, .. } => out.character(*value),
-        BinderTree::Boolean { value, span } => out.named(if *value { "true" } else { "false" }, *span),
+        BinderTree::Boolean { value, span } => out.named(
+            if *value { "true" } else { "false" },
+            *span,
+        ),
         BinderTree::Paren { inner, span } => {
             out.open("paren", *span)?;
             binder(out, inner.get())?;
             out.close()
         }
-        BinderTree::Typed { inner, x_type, span } => {
+        BinderTree::Typed {
+            inner,
+            x_type,
+            span,
+        } => {
             out.open("::", *span)?;
             binder(out, inner.get())?;
             typ(out, x_type.get())?;

@@ -4,7 +4,10 @@ use crate::exprs::clause;
 use crate::kinds::{kind, variables};
 use crate::printer::Printer;
 use crate::types::{context, sig, typ, types};
-use psc_ast::{ClassDecl, Ctor, DataDecl, Decl, Dep, FixityDecl, IdentAt, InstanceDecl, KindOf, Side, SynonymDecl, UpperAt};
+use psc_ast::{
+    ClassDecl, Ctor, DataDecl, Decl, Dep, FixityDecl, IdentAt, InstanceDecl, KindOf, Side,
+    SynonymDecl, UpperAt,
+};
 use psc_text::NoMemory;
 
 fn upper(out: &mut Printer, name: &UpperAt) -> Result<(), NoMemory> {
@@ -76,7 +79,14 @@ fn class(out: &mut Printer, tree: &ClassDecl) -> Result<(), NoMemory> {
 }
 
 fn instance(out: &mut Printer, tree: &InstanceDecl) -> Result<(), NoMemory> {
-    out.open(if tree.goes_on { "else-instance" } else { "instance" }, tree.span)?;
+    out.open(
+        if tree.goes_on {
+            "else-instance"
+        } else {
+            "instance"
+        },
+        tree.span,
+    )?;
     if let Some(name) = &tree.name {
         out.ident(name)?;
         out.word("::")?;
@@ -112,7 +122,12 @@ pub fn decl(out: &mut Printer, tree: &Decl) -> Result<(), NoMemory> {
         Decl::XData(one) => x_data(out, "data", one),
         Decl::Newtype(one) => x_data(out, "newtype", one),
         Decl::Synonym(one) => synonym(out, one),
-        Decl::KindSig { of, name, kind: written, span } => {
+        Decl::KindSig {
+            of,
+            name,
+            kind: written,
+            span,
+        } => {
             out.open("kind", *span)?;
             out.word(keyword(*of))?;
             upper(out, name)?;
@@ -124,7 +139,11 @@ pub fn decl(out: &mut Printer, tree: &Decl) -> Result<(), NoMemory> {
             sig(out, one)?;
             out.close()
         }
-        Decl::ForeignData { name, kind: written, span } => {
+        Decl::ForeignData {
+            name,
+            kind: written,
+            span,
+        } => {
             out.open("foreign-data", *span)?;
             upper(out, name)?;
             kind(out, written)?;

@@ -10,10 +10,14 @@ use psc_text::NoMemory;
 fn expr(out: &mut Printer, tree: &ExprTree) -> Result<(), NoMemory> {
     match tree {
         ExprTree::Chain { .. } | ExprTree::Ticks { .. } | ExprTree::Call { .. } => flat(out, tree),
-        ExprTree::Typed { .. } | ExprTree::Operation { .. } | ExprTree::Negate { .. } => applied(out, tree),
+        ExprTree::Typed { .. } | ExprTree::Operation { .. } | ExprTree::Negate { .. } => applied(
+            out, tree,
+        ),
         ExprTree::Lambda { .. } | ExprTree::If { .. } | ExprTree::Case { .. } => form(out, tree),
         ExprTree::Let { .. } | ExprTree::Do { .. } | ExprTree::Ado { .. } => blocks(out, tree),
-        ExprTree::Access { .. } | ExprTree::Update { .. } | ExprTree::Paren { .. } => part(out, tree),
+        ExprTree::Access { .. } | ExprTree::Update { .. } | ExprTree::Paren { .. } => part(
+            out, tree,
+        ),
         ExprTree::Array { .. } | ExprTree::XRecord { .. } => brackets(out, tree),
         _ => atom(out, tree),
     }
@@ -33,7 +37,10 @@ fn atom(out: &mut Printer, tree: &ExprTree) -> Result<(), NoMemory> {
         ExprTree::Integer { value, .. } => out.integer(*value),
         ExprTree::Str { value, .. } => out.quoted(value.as_str()),
         ExprTree::Character { value, .. } => out.character(*value),
-        ExprTree::Boolean { value, span } => out.named(if *value { "true" } else { "false" }, *span),
+        ExprTree::Boolean { value, span } => out.named(
+            if *value { "true" } else { "false" },
+            *span,
+        ),
         ExprTree::Variable { name } | ExprTree::Constructor { name } => out.mention(name),
         ExprTree::Operator { name, span } => {
             out.open("operator", *span)?;
@@ -67,7 +74,11 @@ fn flat(out: &mut Printer, tree: &ExprTree) -> Result<(), NoMemory> {
             }
             out.close()
         }
-        ExprTree::Call { function, arguments, span } => {
+        ExprTree::Call {
+            function,
+            arguments,
+            span,
+        } => {
             out.open("call", *span)?;
             expr(out, function.get())?;
             exprs(out, arguments.as_slice())?;
@@ -80,20 +91,33 @@ fn flat(out: &mut Printer, tree: &ExprTree) -> Result<(), NoMemory> {
 #[cycle(exprs)]
 fn applied(out: &mut Printer, tree: &ExprTree) -> Result<(), NoMemory> {
     match tree {
-        ExprTree::Typed { value, x_type, span } => {
+        ExprTree::Typed {
+            value,
+            x_type,
+            span,
+        } => {
             out.open("::", *span)?;
             expr(out, value.get())?;
             typ(out, x_type.get())?;
             out.close()
         }
-        ExprTree::Operation { op, left, right, span } => {
+        ExprTree::Operation {
+            op,
+            left,
+            right,
+            span,
+        } => {
             out.open("op", *span)?;
             out.mention(op)?;
             expr(out, left.get())?;
             expr(out, right.get())?;
             out.close()
         }
-        ExprTree::Negate { minus, operand, span } => {
+        ExprTree::Negate {
+            minus,
+            operand,
+            span,
+        } => {
             out.open("negate", *span)?;
             out.named("-", *minus)?;
             expr(out, operand.get())?;
@@ -106,21 +130,34 @@ fn applied(out: &mut Printer, tree: &ExprTree) -> Result<(), NoMemory> {
 #[cycle(exprs)]
 fn form(out: &mut Printer, tree: &ExprTree) -> Result<(), NoMemory> {
     match tree {
-        ExprTree::Lambda { binders: names, body, span } => {
+        ExprTree::Lambda {
+            binders: names,
+            body,
+            span,
+        } => {
             out.open("\\", *span)?;
             binders(out, names.as_slice())?;
             out.word("->")?;
             expr(out, body.get())?;
             out.close()
         }
-        ExprTree::If { test, then, otherwise, span } => {
+        ExprTree::If {
+            test,
+            then,
+            otherwise,
+            span,
+        } => {
             out.open("if", *span)?;
             expr(out, test.get())?;
             expr(out, then.get())?;
             expr(out, otherwise.get())?;
             out.close()
         }
-        ExprTree::Case { scrutinees, alternatives, span } => {
+        ExprTree::Case {
+            scrutinees,
+            alternatives,
+            span,
+        } => {
             out.open("case", *span)?;
             exprs(out, scrutinees.as_slice())?;
             for one in alternatives.as_slice() {
@@ -135,7 +172,11 @@ fn form(out: &mut Printer, tree: &ExprTree) -> Result<(), NoMemory> {
 #[cycle(exprs)]
 fn blocks(out: &mut Printer, tree: &ExprTree) -> Result<(), NoMemory> {
     match tree {
-        ExprTree::Let { binds: locals, body, span } => {
+        ExprTree::Let {
+            binds: locals,
+            body,
+            span,
+        } => {
             out.open("let", *span)?;
             binds(out, locals.as_slice())?;
             expr(out, body.get())?;
@@ -146,7 +187,11 @@ fn blocks(out: &mut Printer, tree: &ExprTree) -> Result<(), NoMemory> {
             stmts(out, statements.as_slice())?;
             out.close()
         }
-        ExprTree::Ado { statements, result, span } => {
+        ExprTree::Ado {
+            statements,
+            result,
+            span,
+        } => {
             out.open("ado", *span)?;
             stmts(out, statements.as_slice())?;
             expr(out, result.get())?;
@@ -159,7 +204,11 @@ fn blocks(out: &mut Printer, tree: &ExprTree) -> Result<(), NoMemory> {
 #[cycle(exprs)]
 fn part(out: &mut Printer, tree: &ExprTree) -> Result<(), NoMemory> {
     match tree {
-        ExprTree::Access { subject, labels, span } => {
+        ExprTree::Access {
+            subject,
+            labels,
+            span,
+        } => {
             out.open(".", *span)?;
             expr(out, subject.get())?;
             for label in labels.as_slice() {
@@ -167,7 +216,11 @@ fn part(out: &mut Printer, tree: &ExprTree) -> Result<(), NoMemory> {
             }
             out.close()
         }
-        ExprTree::Update { subject, updates, span } => {
+        ExprTree::Update {
+            subject,
+            updates,
+            span,
+        } => {
             out.open("update", *span)?;
             expr(out, subject.get())?;
             for one in updates.as_slice() {
@@ -272,7 +325,11 @@ fn branch(out: &mut Printer, tree: &Branch) -> Result<(), NoMemory> {
 fn test(out: &mut Printer, tree: &Test) -> Result<(), NoMemory> {
     match tree {
         Test::Holds { value } => expr(out, value),
-        Test::Binds { binder: to, value, span } => {
+        Test::Binds {
+            binder: to,
+            value,
+            span,
+        } => {
             out.open("<-", *span)?;
             binder(out, to)?;
             expr(out, value)?;
@@ -294,7 +351,11 @@ fn bind(out: &mut Printer, tree: &Bind) -> Result<(), NoMemory> {
     match tree {
         Bind::Sig(one) => sig(out, one),
         Bind::Clause(one) => clause(out, one),
-        Bind::Value { binder: to, rhs: side, span } => {
+        Bind::Value {
+            binder: to,
+            rhs: side,
+            span,
+        } => {
             out.open("value", *span)?;
             binder(out, to)?;
             rhs(out, side)?;
@@ -324,13 +385,20 @@ fn stmts(out: &mut Printer, trees: &[Stmt]) -> Result<(), NoMemory> {
 fn stmt(out: &mut Printer, tree: &Stmt) -> Result<(), NoMemory> {
     match tree {
         Stmt::Run { value } => expr(out, value),
-        Stmt::Binds { binder: to, value, span } => {
+        Stmt::Binds {
+            binder: to,
+            value,
+            span,
+        } => {
             out.open("<-", *span)?;
             binder(out, to)?;
             expr(out, value)?;
             out.close()
         }
-        Stmt::Let { binds: locals, span } => {
+        Stmt::Let {
+            binds: locals,
+            span,
+        } => {
             out.open("let", *span)?;
             binds(out, locals.as_slice())?;
             out.close()

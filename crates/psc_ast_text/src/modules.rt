@@ -29,7 +29,13 @@ fn ctors(out: &mut Printer, tree: &Ctors) -> Result<(), NoMemory> {
 }
 
 /// A node of one name.
-fn one_name(out: &mut Printer, word: &str, span: Span, name: &str, at: Span) -> Result<(), NoMemory> {
+fn one_name(
+    out: &mut Printer,
+    word: &str,
+    span: Span,
+    name: &str,
+    at: Span,
+) -> Result<(), NoMemory> {
     out.open(word, span)?;
     out.named(name, at)?;
     out.close()
@@ -39,9 +45,19 @@ fn reference(out: &mut Printer, tree: &Ref) -> Result<(), NoMemory> {
     match tree {
         Ref::Value { name } => out.ident(name),
         Ref::Operator { op, span } => one_name(out, "operator", *span, op.op.0.as_str(), op.span),
-        Ref::TypeOperator { op, span } => one_name(out, "type-operator", *span, op.op.0.as_str(), op.span),
+        Ref::TypeOperator { op, span } => one_name(
+            out,
+            "type-operator",
+            *span,
+            op.op.0.as_str(),
+            op.span,
+        ),
         Ref::Class { name, span } => one_name(out, "class", *span, name.name.as_str(), name.span),
-        Ref::XType { name, ctors: listed, span } => {
+        Ref::XType {
+            name,
+            ctors: listed,
+            span,
+        } => {
             out.open("type", *span)?;
             upper(out, name)?;
             ctors(out, listed)?;
@@ -78,7 +94,13 @@ fn exports(out: &mut Printer, trees: &[Export]) -> Result<(), NoMemory> {
     for one in trees {
         match one {
             Export::Ref(found) => reference(out, found)?,
-            Export::Module { name, span } => one_name(out, "module", *span, name.name.as_str(), name.span)?,
+            Export::Module { name, span } => one_name(
+                out,
+                "module",
+                *span,
+                name.name.as_str(),
+                name.span,
+            )?,
         }
     }
     out.close()

@@ -15,7 +15,11 @@ pub struct Printer {
 
 impl Printer {
     pub fn new(alloc: Global, places: bool) -> Printer {
-        Printer { alloc, text: String::new(alloc), places }
+        Printer {
+            alloc,
+            text: String::new(alloc),
+            places,
+        }
     }
 
     pub fn into_text(self) -> String {
@@ -82,7 +86,11 @@ impl Printer {
     /// A name, with its place where places are written.
     pub fn named(&mut self, name: &str, span: Span) -> Result<(), NoMemory> {
         self.word(name)?;
-        if self.places { self.place(span) } else { Ok(()) }
+        if self.places {
+            self.place(span)
+        } else {
+            Ok(())
+        }
     }
 
     pub fn ident(&mut self, name: &IdentAt) -> Result<(), NoMemory> {
@@ -101,7 +109,11 @@ impl Printer {
             self.text.push('|')?;
         }
         self.text.push_str(mention.name.name.as_str())?;
-        if self.places { self.place(mention.span) } else { Ok(()) }
+        if self.places {
+            self.place(mention.span)
+        } else {
+            Ok(())
+        }
     }
 
     fn letter(&mut self, letter: char) -> Result<(), NoMemory> {

@@ -8,7 +8,11 @@ use psc_text::{NoMemory, Span};
 #[cycle(types)]
 pub fn typ(out: &mut Printer, tree: &TypeTree) -> Result<(), NoMemory> {
     match tree {
-        TypeTree::Prefixed { prefixes, result, span } => {
+        TypeTree::Prefixed {
+            prefixes,
+            result,
+            span,
+        } => {
             out.open("to", *span)?;
             for one in prefixes.as_slice() {
                 prefix(out, one)?;
@@ -25,14 +29,23 @@ pub fn typ(out: &mut Printer, tree: &TypeTree) -> Result<(), NoMemory> {
             }
             out.close()
         }
-        TypeTree::Operation { op, left, right, span } => {
+        TypeTree::Operation {
+            op,
+            left,
+            right,
+            span,
+        } => {
             out.open("op", *span)?;
             out.mention(op)?;
             typ(out, left.get())?;
             typ(out, right.get())?;
             out.close()
         }
-        TypeTree::Application { function, arguments, span } => {
+        TypeTree::Application {
+            function,
+            arguments,
+            span,
+        } => {
             out.open("app", *span)?;
             typ(out, function.get())?;
             types(out, arguments.as_slice())?;

@@ -25,16 +25,25 @@ impl Depth {
     {
         let level = self.level.saturating_add(1);
         if self.deepest < level {
-            Depth { level, deepest: level }
+            Depth {
+                level,
+                deepest: level,
+            }
         } else {
-            Depth { level, deepest: self.deepest }
+            Depth {
+                level,
+                deepest: self.deepest,
+            }
         }
     }
 
     fn fall(self, by: u32) -> Depth
         ensures { result ≡ spec.fall by self }
     {
-        Depth { level: self.level.saturating_sub(by), deepest: self.deepest }
+        Depth {
+            level: self.level.saturating_sub(by),
+            deepest: self.deepest,
+        }
     }
 }
 
@@ -48,16 +57,25 @@ pub(crate) struct Held {
 }
 
 impl Held {
-    const NOTHING: Held = Held { reaching: 0, cases: 0 };
+    const NOTHING: Held = Held {
+        reaching: 0,
+        cases: 0,
+    };
 
     fn with(self, is_case: bool) -> Held
         ensures { result ≡ spec.with is_case self }
     {
         let reaching = self.reaching.saturating_add(1);
         if is_case {
-            Held { reaching, cases: self.cases.saturating_add(1) }
+            Held {
+                reaching,
+                cases: self.cases.saturating_add(1),
+            }
         } else {
-            Held { reaching, cases: self.cases }
+            Held {
+                reaching,
+                cases: self.cases,
+            }
         }
     }
 
@@ -65,7 +83,10 @@ impl Held {
     fn answered(self) -> Held
         ensures { result ≡ spec.answered self }
     {
-        Held { reaching: self.reaching, cases: self.cases.saturating_sub(1) }
+        Held {
+            reaching: self.reaching,
+            cases: self.cases.saturating_sub(1),
+        }
     }
 }
 
@@ -101,9 +122,15 @@ impl Nest {
     {
         Nest {
             brackets: Vec::new(alloc),
-            block: Block { held: Held::NOTHING, below: 0 },
+            block: Block {
+                held: Held::NOTHING,
+                below: 0,
+            },
             outer: Vec::new(alloc),
-            depth: Depth { level: 0, deepest: 0 },
+            depth: Depth {
+                level: 0,
+                deepest: 0,
+            },
         }
     }
 
@@ -142,9 +169,15 @@ impl Nest {
         match self.innermost() {
             Some(bracket) => {
                 let _last = self.brackets.pop();
-                self.brackets.push(Bracket { shape: bracket.shape, held })?;
+                self.brackets.push(Bracket {
+                    shape: bracket.shape,
+                    held,
+                })?;
             }
-            None => self.block = Block { held, below: self.block.below },
+            None => self.block = Block {
+                held,
+                below: self.block.below,
+            },
         }
         Ok(())
     }
@@ -152,7 +185,10 @@ impl Nest {
     fn open_bracket(&mut self, shape: Shape) -> Result<(), NoMemory>
         ensures { IfOk result (λ _. spec.state self.new ≡ spec.open_bracket shape (spec.state self.old)) }
     {
-        self.brackets.push(Bracket { shape, held: Held::NOTHING })?;
+        self.brackets.push(Bracket {
+            shape,
+            held: Held::NOTHING,
+        })?;
         self.depth = self.depth.rise();
         Ok(())
     }
@@ -175,7 +211,10 @@ impl Nest {
         if let Some(bracket) = self.innermost()
             && bracket.held.cases == 0
         {
-            self.hold(Held { reaching: 0, cases: 0 })?;
+            self.hold(Held {
+                reaching: 0,
+                cases: 0,
+            })?;
             self.depth = self.depth.fall(bracket.held.reaching);
         }
         Ok(())
@@ -218,7 +257,10 @@ impl Nest {
         ensures { IfOk result (λ _. spec.state self.new ≡ spec.open_block (spec.state self.old)) }
     {
         self.outer.push(self.block)?;
-        self.block = Block { held: Held::NOTHING, below: self.brackets.len() };
+        self.block = Block {
+            held: Held::NOTHING,
+            below: self.brackets.len(),
+        };
         self.depth = self.depth.rise();
         Ok(())
     }
@@ -239,7 +281,10 @@ impl Nest {
         ensures { spec.state self.new ≡ spec.next_item (spec.state self.old) }
     {
         self.depth = self.depth.fall(self.block.held.reaching);
-        self.block = Block { held: Held::NOTHING, below: self.block.below };
+        self.block = Block {
+            held: Held::NOTHING,
+            below: self.block.below,
+        };
     }
 
     /// Takes the next symbol.

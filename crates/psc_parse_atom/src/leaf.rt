@@ -3,7 +3,9 @@
 use crate::make::boxed;
 use psc_ast::{ExprTree, LabelAt};
 use psc_lex::Sign;
-use psc_parse_base::{Fault, Next, Parsed, Sym, character, eat, integer_value, label, mention, string};
+use psc_parse_base::{
+    Fault, Next, Parsed, Sym, character, eat, integer_value, label, mention, string,
+};
 use sqlite_items::{Boxed, Items};
 use std::alloc::Global;
 
@@ -24,12 +26,24 @@ pub fn labels(alloc: Global, syms: &[Sym]) -> Parsed<'_, Items<LabelAt>> {
 
 fn text<'a>(alloc: Global, first: &Sym, rest: &'a [Sym]) -> Parsed<'a, ExprTree> {
     let value = string(alloc, first.text.as_str())?;
-    Ok((ExprTree::Str { value, span: first.span }, rest))
+    Ok((
+        ExprTree::Str {
+            value,
+            span: first.span,
+        },
+        rest,
+    ))
 }
 
 fn letter<'a>(alloc: Global, first: &Sym, rest: &'a [Sym]) -> Parsed<'a, ExprTree> {
     let value = character(alloc, first.text.as_str())?;
-    Ok((ExprTree::Character { value, span: first.span }, rest))
+    Ok((
+        ExprTree::Character {
+            value,
+            span: first.span,
+        },
+        rest,
+    ))
 }
 
 /// A literal that is no integer, or a `_`.
@@ -50,7 +64,13 @@ fn negative(syms: &[Sym]) -> Parsed<'_, ExprTree> {
     match syms {
         [minus, digits, rest @ ..] if digits.next == Next::Token(Sign::Integer) => {
             let value = integer_value(digits.text.as_str(), true);
-            Ok((ExprTree::Integer { value, span: minus.span.to(digits.span) }, rest))
+            Ok((
+                ExprTree::Integer {
+                    value,
+                    span: minus.span.to(digits.span),
+                },
+                rest,
+            ))
         }
         _ => Err(Fault::Grammar),
     }
@@ -58,7 +78,13 @@ fn negative(syms: &[Sym]) -> Parsed<'_, ExprTree> {
 
 fn integer<'a>(first: &Sym, rest: &'a [Sym]) -> Parsed<'a, ExprTree> {
     let value = integer_value(first.text.as_str(), false);
-    Ok((ExprTree::Integer { value, span: first.span }, rest))
+    Ok((
+        ExprTree::Integer {
+            value,
+            span: first.span,
+        },
+        rest,
+    ))
 }
 
 /// A variable, constructor or operator of one token.

@@ -1,7 +1,7 @@
 //! Trees out of parts that are read.
 
-use crate::underscore::chain_has_hole;
 use crate::leaf::labels;
+use crate::underscore::chain_has_hole;
 use psc_ast::{ExprTree, Mention};
 use psc_lex::Sign;
 use psc_parse_base::{Fault, Next, Parsed, Sym, eat, expect, mention, peek, sees, span_of};
@@ -31,7 +31,15 @@ pub fn accessed<'a>(
     if labels.is_empty() {
         return Ok((subject, rest));
     }
-    made(alloc, ExprTree::Access { subject, labels, span: span_of(syms, rest) }, rest)
+    made(
+        alloc,
+        ExprTree::Access {
+            subject,
+            labels,
+            span: span_of(syms, rest),
+        },
+        rest,
+    )
 }
 
 /// The value with the type behind it, if `::` comes; `syms` begins with the value. A type stands behind no chain with a `_`.
@@ -48,7 +56,15 @@ pub fn typed<'a>(
         return Err(Fault::Grammar);
     }
     let (x_type, rest) = whole_type(alloc, after)?;
-    made(alloc, ExprTree::Typed { value, x_type, span: span_of(syms, rest) }, rest)
+    made(
+        alloc,
+        ExprTree::Typed {
+            value,
+            x_type,
+            span: span_of(syms, rest),
+        },
+        rest,
+    )
 }
 
 /// Whether a variable or constructor comes.

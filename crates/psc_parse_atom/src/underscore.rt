@@ -44,7 +44,11 @@ fn begins_nested_update(syms: &[Sym]) -> bool {
 
 /// Whether an update comes behind its subject. One whose first label is updated itself is a form of PureScript.
 pub fn update_comes(syms: &[Sym]) -> Result<bool, Fault> {
-    if begins_nested_update(syms) { Err(Fault::Outside) } else { Ok(begins_update(syms)) }
+    if begins_nested_update(syms) {
+        Err(Fault::Outside)
+    } else {
+        Ok(begins_update(syms))
+    }
 }
 
 /// A `_` that no `.label` follows, if one may stand here. As the subject of an update it is a form of PureScript.
@@ -64,7 +68,10 @@ pub fn hole(alloc: Global, syms: &[Sym], holes: Holes) -> Parsed<'_, Boxed<ExprT
 /// Whether a `_` comes that is the whole value of a field.
 pub fn is_field_hole(syms: &[Sym]) -> bool {
     peek(syms) == Next::Token(Sign::Underscore)
-        && matches!(peek_second(syms), Next::Token(Sign::Comma | Sign::RightBrace))
+        && matches!(
+            peek_second(syms),
+            Next::Token(Sign::Comma | Sign::RightBrace)
+        )
 }
 
 /// Whether a `_` comes that is a whole scrutinee.
@@ -99,7 +106,10 @@ pub fn chain_has_hole(expr: &ExprTree) -> bool {
     match expr {
         ExprTree::Chain { first, rest, .. } => {
             operand_has_hole(first.get())
-                || rest.as_slice().iter().any(|step| operand_has_hole(&step.operand))
+                || rest
+                    .as_slice()
+                    .iter()
+                    .any(|step| operand_has_hole(&step.operand))
         }
         other => operand_has_hole(other),
     }

@@ -14,5 +14,8 @@ mod symbol;
 pub use fault::{Fault, Parsed, whole};
 pub use literal::{character, integer_value, is_out_of_range, string};
 pub use name::{ident, label, lower, mention, module_name, op, upper};
-pub use step::{comes, content, eat, eat_next, expect, expect_next, goes_on, opens_block, peek, peek_second, peek_third, sees, span_of};
+pub use step::{
+    comes, content, eat, eat_next, expect, expect_next, goes_on, opens_block, peek, peek_second,
+    peek_third, sees, span_of,
+};
 pub use symbol::{Next, Sym, symbols};

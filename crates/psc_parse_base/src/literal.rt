@@ -30,8 +30,14 @@ impl Digits {
         }
         match digit_value(letter) {
             Some(digit) => {
-                let more = self.value.saturating_mul(self.base).saturating_add(u64::from(digit));
-                Digits { value: more.min(CAP), base: self.base }
+                let more = self
+                    .value
+                    .saturating_mul(self.base)
+                    .saturating_add(u64::from(digit));
+                Digits {
+                    value: more.min(CAP),
+                    base: self.base,
+                }
             }
             None => self,
         }
@@ -109,7 +115,10 @@ fn plain(letter: char, quote: char, out: &mut String) -> Result<State, NoMemory>
 
 fn escape(letter: char, out: &mut String) -> Result<State, NoMemory> {
     match letter {
-        'x' => Ok(State::Hex { value: 0, digits: 0 }),
+        'x' => Ok(State::Hex {
+            value: 0,
+            digits: 0,
+        }),
         ' ' | '\t' | '\r' | '\n' => Ok(State::Gap),
         other => {
             out.push(escaped(other))?;
@@ -127,10 +136,21 @@ fn end_hex(value: u32, out: &mut String) -> Result<(), NoMemory> {
 }
 
 /// The next character behind `\x`: one more digit, or the first character behind the digits.
-fn hex(value: u32, digits: u8, letter: char, quote: char, out: &mut String) -> Result<State, NoMemory> {
-    if digits < 6 && let Some(digit) = digit_value(letter) {
+fn hex(
+    value: u32,
+    digits: u8,
+    letter: char,
+    quote: char,
+    out: &mut String,
+) -> Result<State, NoMemory> {
+    if digits < 6
+        && let Some(digit) = digit_value(letter)
+    {
         let value = value.saturating_mul(16).saturating_add(digit);
-        return Ok(State::Hex { value, digits: digits + 1 });
+        return Ok(State::Hex {
+            value,
+            digits: digits + 1,
+        });
     }
     end_hex(value, out)?;
     plain(letter, quote, out)
@@ -142,7 +162,11 @@ fn step(state: State, letter: char, quote: char, out: &mut String) -> Result<Sta
         State::Plain => plain(letter, quote, out),
         State::Escape => escape(letter, out),
         State::Hex { value, digits } => hex(value, digits, letter, quote, out),
-        State::Gap => Ok(if letter == '\\' { State::Plain } else { State::Gap }),
+        State::Gap => Ok(if letter == '\\' {
+            State::Plain
+        } else {
+            State::Gap
+        }),
         State::After => Ok(State::After),
     }
 }
@@ -178,7 +202,11 @@ fn raw(alloc: Global, text: &str) -> Result<String, NoMemory> {
 
 /// The text that a string literal stands for.
 pub fn string(alloc: Global, text: &str) -> Result<Text, NoMemory> {
-    let content = if text.starts_with("\"\"\"") { raw(alloc, text)? } else { unescaped(alloc, text, '"')? };
+    let content = if text.starts_with("\"\"\"") {
+        raw(alloc, text)?
+    } else {
+        unescaped(alloc, text, '"')?
+    };
     Text::from_string(content)
 }
 

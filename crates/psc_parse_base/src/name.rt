@@ -14,7 +14,13 @@ pub fn ident(syms: &[Sym]) -> Parsed<'_, IdentAt> {
     match syms {
         [first, rest @ ..] if is_lower(first.next) => {
             let name = Ident(first.text.clone()?);
-            Ok((IdentAt { name, span: first.span }, rest))
+            Ok((
+                IdentAt {
+                    name,
+                    span: first.span,
+                },
+                rest,
+            ))
         }
         _ => Err(Fault::Grammar),
     }
@@ -51,7 +57,13 @@ pub fn upper(syms: &[Sym]) -> Parsed<'_, UpperAt> {
     match syms {
         [first, rest @ ..] if first.next == Next::Token(Sign::Upper) => {
             let name = first.text.clone()?;
-            Ok((UpperAt { name, span: first.span }, rest))
+            Ok((
+                UpperAt {
+                    name,
+                    span: first.span,
+                },
+                rest,
+            ))
         }
         _ => Err(Fault::Grammar),
     }
@@ -62,7 +74,13 @@ pub fn op(syms: &[Sym]) -> Parsed<'_, OpAt> {
     match syms {
         [first, rest @ ..] if is_plain_operator(first.next) => {
             let op = OpName(first.text.clone()?);
-            Ok((OpAt { op, span: first.span }, rest))
+            Ok((
+                OpAt {
+                    op,
+                    span: first.span,
+                },
+                rest,
+            ))
         }
         _ => Err(Fault::Grammar),
     }
@@ -77,7 +95,13 @@ pub fn label(alloc: Global, syms: &[Sym]) -> Parsed<'_, LabelAt> {
             } else {
                 first.text.clone()?
             };
-            Ok((LabelAt { label: Label(text), span: first.span }, rest))
+            Ok((
+                LabelAt {
+                    label: Label(text),
+                    span: first.span,
+                },
+                rest,
+            ))
         }
         _ => Err(Fault::Grammar),
     }
@@ -93,7 +117,13 @@ pub fn module_name(alloc: Global, syms: &[Sym]) -> Parsed<'_, ModuleAt> {
             let Some(name) = read_module_name(alloc, first.text.as_str())? else {
                 return Err(Fault::Grammar);
             };
-            Ok((ModuleAt { name, span: first.span }, rest))
+            Ok((
+                ModuleAt {
+                    name,
+                    span: first.span,
+                },
+                rest,
+            ))
         }
         [] => Err(Fault::Grammar),
     }
@@ -118,9 +148,18 @@ pub fn mention(alloc: Global, syms: &[Sym]) -> Parsed<'_, Mention> {
             let name = if is_qualified(first.next) {
                 split_off_module(alloc, first.text.as_str())?
             } else {
-                Qualified { module: None, name: first.text.clone()? }
+                Qualified {
+                    module: None,
+                    name: first.text.clone()?,
+                }
             };
-            Ok((Mention { name, span: first.span }, rest))
+            Ok((
+                Mention {
+                    name,
+                    span: first.span,
+                },
+                rest,
+            ))
         }
         [] => Err(Fault::Grammar),
     }
@@ -140,27 +179,46 @@ struct Split {
 impl Split {
     /// Takes the next character.
     fn take(self, alloc: Global, letter: char) -> Result<Split, NoMemory> {
-        let Split { mut module, mut part, is_operator } = self;
+        let Split {
+            mut module,
+            mut part,
+            is_operator,
+        } = self;
         if !is_operator && letter == '.' && !part.is_empty() {
             if !module.is_empty() {
                 module.push('.')?;
             }
             module.push_str(part.as_str())?;
-            return Ok(Split { module, part: String::new(alloc), is_operator });
+            return Ok(Split {
+                module,
+                part: String::new(alloc),
+                is_operator,
+            });
         }
         if letter != '(' && letter != ')' {
             part.push(letter)?;
         }
-        Ok(Split { module, part, is_operator: is_operator || !goes_on(letter) })
+        Ok(Split {
+            module,
+            part,
+            is_operator: is_operator || !goes_on(letter),
+        })
     }
 }
 
 /// `M.N.x` as its module `M.N` and its name `x`; the name may be an operator, with or without parentheses.
 fn split_off_module(alloc: Global, text: &str) -> Result<Qualified, NoMemory> {
-    let mut parts = Split { module: String::new(alloc), part: String::new(alloc), is_operator: false };
+    let mut parts = Split {
+        module: String::new(alloc),
+        part: String::new(alloc),
+        is_operator: false,
+    };
     for letter in text.chars() {
         parts = parts.take(alloc, letter)?;
     }
     let module = read_module_name(alloc, parts.module.as_str())?;
-    Ok(Qualified { module, name: Text::from_string(parts.part)? })
+    Ok(Qualified {
+        module,
+        name: Text::from_string(parts.part)?,
+    })
 }

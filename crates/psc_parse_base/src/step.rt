@@ -119,7 +119,9 @@ fn begins_bracket(next: Next) -> bool {
 fn ends_bracket(next: Next) -> bool {
     matches!(
         next,
-        Next::Token(Sign::RightParen) | Next::Token(Sign::RightBracket) | Next::Token(Sign::RightBrace)
+        Next::Token(Sign::RightParen)
+            | Next::Token(Sign::RightBracket)
+            | Next::Token(Sign::RightBrace)
     )
 }
 

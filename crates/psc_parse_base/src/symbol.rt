@@ -51,7 +51,11 @@ fn push_token(out: &mut Vec<Sym>, blank: &Text, tok: &Tok, before: Span) -> Resu
         push_mark(out, Next::Item, blank, tok.span)?;
     }
     let text = tok.text.clone()?;
-    out.push(Sym { next: Next::Token(tok.sign), text, span: tok.span })?;
+    out.push(Sym {
+        next: Next::Token(tok.sign),
+        text,
+        span: tok.span,
+    })?;
     match tok.mark.opens {
         Opens::No => Ok(()),
         Opens::Block => push_mark(out, Next::Open, blank, tok.span),

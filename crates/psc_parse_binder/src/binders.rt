@@ -3,7 +3,10 @@
 use crate::token::{begins_atom, names_at, negative, token};
 use psc_ast::{BinderField, BinderStep, BinderTree};
 use psc_lex::{Sign, Tok};
-use psc_parse_base::{Fault, Next, Parsed, Sym, content, eat, expect, label, mention, peek, sees, span_of, symbols, whole};
+use psc_parse_base::{
+    Fault, Next, Parsed, Sym, content, eat, expect, label, mention, peek, sees, span_of, symbols,
+    whole,
+};
 use psc_parse_type::whole_type;
 use psc_text::NoMemory;
 use sqlite_items::{Boxed, Items};
@@ -52,7 +55,11 @@ impl Binders {
         if self.depth == 0 {
             return Err(Fault::Grammar);
         }
-        Binders { alloc: self.alloc, depth: self.depth - 1 }.whole(syms)
+        Binders {
+            alloc: self.alloc,
+            depth: self.depth - 1,
+        }
+        .whole(syms)
     }
 
     /// Binders with commas between them.
@@ -77,11 +84,26 @@ impl Binders {
         let (inner, rest) = self.inner(expect(syms, Sign::LeftParen)?)?;
         let Some(after) = eat(rest, Sign::DoubleColon) else {
             let rest = expect(rest, Sign::RightParen)?;
-            return made(self.alloc, BinderTree::Paren { inner, span: span_of(syms, rest) }, rest);
+            return made(
+                self.alloc,
+                BinderTree::Paren {
+                    inner,
+                    span: span_of(syms, rest),
+                },
+                rest,
+            );
         };
         let (x_type, rest) = whole_type(self.alloc, after)?;
         let rest = expect(rest, Sign::RightParen)?;
-        made(self.alloc, BinderTree::Typed { inner, x_type, span: span_of(syms, rest) }, rest)
+        made(
+            self.alloc,
+            BinderTree::Typed {
+                inner,
+                x_type,
+                span: span_of(syms, rest),
+            },
+            rest,
+        )
     }
 
     #[cycle(binders)]
@@ -89,11 +111,25 @@ impl Binders {
         let open = expect(syms, Sign::LeftBracket)?;
         if let Some(rest) = eat(open, Sign::RightBracket) {
             let items = Items::new(self.alloc);
-            return made(self.alloc, BinderTree::Array { items, span: span_of(syms, rest) }, rest);
+            return made(
+                self.alloc,
+                BinderTree::Array {
+                    items,
+                    span: span_of(syms, rest),
+                },
+                rest,
+            );
         }
         let (items, rest) = self.listed(open)?;
         let rest = expect(rest, Sign::RightBracket)?;
-        made(self.alloc, BinderTree::Array { items, span: span_of(syms, rest) }, rest)
+        made(
+            self.alloc,
+            BinderTree::Array {
+                items,
+                span: span_of(syms, rest),
+            },
+            rest,
+        )
     }
 
     #[cycle(binders)]
@@ -103,7 +139,13 @@ impl Binders {
             return Ok((BinderField { label, value: None }, rest));
         };
         let (value, rest) = self.inner(after)?;
-        Ok((BinderField { label, value: Some(value) }, rest))
+        Ok((
+            BinderField {
+                label,
+                value: Some(value),
+            },
+            rest,
+        ))
     }
 
     #[cycle(binders)]
@@ -128,7 +170,14 @@ impl Binders {
     fn in_braces<'a>(&self, syms: &'a [Sym]) -> Parsed<'a, Boxed<BinderTree>> {
         let (fields, rest) = self.fields(expect(syms, Sign::LeftBrace)?)?;
         let rest = expect(rest, Sign::RightBrace)?;
-        made(self.alloc, BinderTree::XRecord { fields, span: span_of(syms, rest) }, rest)
+        made(
+            self.alloc,
+            BinderTree::XRecord {
+                fields,
+                span: span_of(syms, rest),
+            },
+            rest,
+        )
     }
 
     /// An atom without names and `@` before it.
@@ -149,7 +198,15 @@ impl Binders {
         if names.is_empty() {
             return Ok((inner, rest));
         }
-        made(self.alloc, BinderTree::Named { names, inner, span: span_of(syms, rest) }, rest)
+        made(
+            self.alloc,
+            BinderTree::Named {
+                names,
+                inner,
+                span: span_of(syms, rest),
+            },
+            rest,
+        )
     }
 
     #[cycle(binders)]
@@ -178,7 +235,15 @@ impl Binders {
         }
         let (name, rest) = mention(self.alloc, syms)?;
         let (arguments, rest) = self.atoms(rest)?;
-        made(self.alloc, BinderTree::Constructor { name, arguments, span: span_of(syms, rest) }, rest)
+        made(
+            self.alloc,
+            BinderTree::Constructor {
+                name,
+                arguments,
+                span: span_of(syms, rest),
+            },
+            rest,
+        )
     }
 
     /// Operators and the operands behind them, as many as come.
@@ -192,7 +257,10 @@ impl Binders {
             }
             let (op, after) = mention(self.alloc, rest)?;
             let (operand, after) = self.operand(after)?;
-            found.push(BinderStep { op, operand: operand.into_inner() })?;
+            found.push(BinderStep {
+                op,
+                operand: operand.into_inner(),
+            })?;
             rest = after;
         }
         Ok((found, rest))
@@ -205,12 +273,23 @@ impl Binders {
         if steps.is_empty() {
             return Ok((first, rest));
         }
-        made(self.alloc, BinderTree::Chain { first, rest: steps, span: span_of(syms, rest) }, rest)
+        made(
+            self.alloc,
+            BinderTree::Chain {
+                first,
+                rest: steps,
+                span: span_of(syms, rest),
+            },
+            rest,
+        )
     }
 }
 
 fn rules(alloc: Global, syms: &[Sym]) -> Binders {
-    Binders { alloc, depth: syms.len() }
+    Binders {
+        alloc,
+        depth: syms.len(),
+    }
 }
 
 /// A binder.
@@ -226,12 +305,20 @@ pub fn atoms(alloc: Global, syms: &[Sym]) -> Parsed<'_, Items<BinderTree>> {
 /// One such binder or more.
 pub fn some_atoms(alloc: Global, syms: &[Sym]) -> Parsed<'_, Items<BinderTree>> {
     let (found, rest) = atoms(alloc, syms)?;
-    if found.is_empty() { Err(Fault::Grammar) } else { Ok((found, rest)) }
+    if found.is_empty() {
+        Err(Fault::Grammar)
+    } else {
+        Ok((found, rest))
+    }
 }
 
 /// Binders with commas between them.
 pub fn list(alloc: Global, syms: &[Sym]) -> Parsed<'_, Items<BinderTree>> {
-    Binders { alloc, depth: syms.len().saturating_add(1) }.listed(syms)
+    Binders {
+        alloc,
+        depth: syms.len().saturating_add(1),
+    }
+    .listed(syms)
 }
 
 /// The binder that the tokens are.

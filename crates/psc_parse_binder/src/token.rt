@@ -2,7 +2,10 @@
 
 use psc_ast::{BinderTree, IdentAt, Mention};
 use psc_lex::Sign;
-use psc_parse_base::{Fault, Next, Parsed, Sym, character, eat, ident, integer_value, lower, mention, peek_second, string};
+use psc_parse_base::{
+    Fault, Next, Parsed, Sym, character, eat, ident, integer_value, lower, mention, peek_second,
+    string,
+};
 use sqlite_items::Items;
 use std::alloc::Global;
 
@@ -32,7 +35,11 @@ pub fn begins_atom(next: Next) -> bool {
 /// A constructor without arguments.
 fn bare_constructor(alloc: Global, name: Mention) -> BinderTree {
     let span = name.span;
-    BinderTree::Constructor { name, arguments: Items::new(alloc), span }
+    BinderTree::Constructor {
+        name,
+        arguments: Items::new(alloc),
+        span,
+    }
 }
 
 /// A literal that is no integer.

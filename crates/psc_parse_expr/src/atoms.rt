@@ -3,7 +3,10 @@
 use crate::exprs::Exprs;
 use psc_ast::{ExprTree, Field, Update};
 use psc_lex::Sign;
-use psc_parse_atom::{Holes, accessed, bare_hole, hole, is_field_hole, is_operator_alone, is_scrutinee_hole, made, token, update_comes};
+use psc_parse_atom::{
+    Holes, accessed, bare_hole, hole, is_field_hole, is_operator_alone, is_scrutinee_hole, made,
+    token, update_comes,
+};
 use psc_parse_base::{Fault, Next, Parsed, Sym, eat, expect, label, mention, peek, sees, span_of};
 use sqlite_items::{Boxed, Items};
 use std::alloc::Global;
@@ -12,7 +15,14 @@ use std::alloc::Global;
 fn operator(alloc: Global, syms: &[Sym]) -> Parsed<'_, Boxed<ExprTree>> {
     let (name, rest) = mention(alloc, expect(syms, Sign::LeftParen)?)?;
     let rest = expect(rest, Sign::RightParen)?;
-    made(alloc, ExprTree::Operator { name, span: span_of(syms, rest) }, rest)
+    made(
+        alloc,
+        ExprTree::Operator {
+            name,
+            span: span_of(syms, rest),
+        },
+        rest,
+    )
 }
 
 impl Exprs {
@@ -42,11 +52,25 @@ impl Exprs {
         let open = expect(syms, Sign::LeftBracket)?;
         if let Some(rest) = eat(open, Sign::RightBracket) {
             let items = Items::new(self.alloc);
-            return made(self.alloc, ExprTree::Array { items, span: span_of(syms, rest) }, rest);
+            return made(
+                self.alloc,
+                ExprTree::Array {
+                    items,
+                    span: span_of(syms, rest),
+                },
+                rest,
+            );
         }
         let (items, rest) = self.listed(open, Holes::Refused)?;
         let rest = expect(rest, Sign::RightBracket)?;
-        made(self.alloc, ExprTree::Array { items, span: span_of(syms, rest) }, rest)
+        made(
+            self.alloc,
+            ExprTree::Array {
+                items,
+                span: span_of(syms, rest),
+            },
+            rest,
+        )
     }
 
     #[cycle(exprs)]
@@ -59,7 +83,13 @@ impl Exprs {
             return Err(Fault::Outside);
         }
         let (value, rest) = self.expr(after, Holes::Refused)?;
-        Ok((Field { label, value: Some(value) }, rest))
+        Ok((
+            Field {
+                label,
+                value: Some(value),
+            },
+            rest,
+        ))
     }
 
     /// Fields with commas between them.
@@ -84,11 +114,25 @@ impl Exprs {
         let open = expect(syms, Sign::LeftBrace)?;
         if let Some(rest) = eat(open, Sign::RightBrace) {
             let fields = Items::new(self.alloc);
-            return made(self.alloc, ExprTree::XRecord { fields, span: span_of(syms, rest) }, rest);
+            return made(
+                self.alloc,
+                ExprTree::XRecord {
+                    fields,
+                    span: span_of(syms, rest),
+                },
+                rest,
+            );
         }
         let (fields, rest) = self.fields(open)?;
         let rest = expect(rest, Sign::RightBrace)?;
-        made(self.alloc, ExprTree::XRecord { fields, span: span_of(syms, rest) }, rest)
+        made(
+            self.alloc,
+            ExprTree::XRecord {
+                fields,
+                span: span_of(syms, rest),
+            },
+            rest,
+        )
     }
 
     /// An operator or an expression in parentheses, from the left one on.
@@ -100,7 +144,14 @@ impl Exprs {
         }
         let (inner, rest) = self.expr(open, Holes::Allowed)?;
         let rest = expect(rest, Sign::RightParen)?;
-        made(self.alloc, ExprTree::Paren { inner, span: span_of(syms, rest) }, rest)
+        made(
+            self.alloc,
+            ExprTree::Paren {
+                inner,
+                span: span_of(syms, rest),
+            },
+            rest,
+        )
     }
 
     #[cycle(exprs)]
@@ -156,6 +207,14 @@ impl Exprs {
         }
         let (updates, rest) = self.updates(expect(rest, Sign::LeftBrace)?)?;
         let rest = expect(rest, Sign::RightBrace)?;
-        made(self.alloc, ExprTree::Update { subject, updates, span: span_of(syms, rest) }, rest)
+        made(
+            self.alloc,
+            ExprTree::Update {
+                subject,
+                updates,
+                span: span_of(syms, rest),
+            },
+            rest,
+        )
     }
 }

@@ -5,7 +5,10 @@ use crate::sides::Draw;
 use psc_ast::{Alt, Bind, Clause, ExprTree, Stmt};
 use psc_lex::Sign;
 use psc_parse_atom::Holes;
-use psc_parse_base::{Fault, Next, Parsed, Sym, eat, expect, goes_on, ident, lower, opens_block, peek_second, sees, span_of};
+use psc_parse_base::{
+    Fault, Next, Parsed, Sym, eat, expect, goes_on, ident, lower, opens_block, peek_second, sees,
+    span_of,
+};
 use psc_parse_binder::{atoms, list, one_binder};
 use psc_parse_type::sig;
 use psc_text::Span;
@@ -15,8 +18,14 @@ use std::alloc::Global;
 fn stmt_of(draw: Draw, span: Span) -> Stmt {
     let Draw { binder, value } = draw;
     match binder {
-        None => Stmt::Run { value: value.into_inner() },
-        Some(binder) => Stmt::Binds { binder: binder.into_inner(), value: value.into_inner(), span },
+        None => Stmt::Run {
+            value: value.into_inner(),
+        },
+        Some(binder) => Stmt::Binds {
+            binder: binder.into_inner(),
+            value: value.into_inner(),
+            span,
+        },
     }
 }
 
@@ -43,10 +52,18 @@ impl Exprs {
             }
             let (binders, after) = list(self.alloc, rest)?;
             let (rhs, after) = self.rhs(after, Sign::Arrow)?;
-            found.push(Alt { binders, rhs, span: span_of(rest, after) })?;
+            found.push(Alt {
+                binders,
+                rhs,
+                span: span_of(rest, after),
+            })?;
             (more, rest) = goes_on(after)?;
         }
-        if more { Err(Fault::Grammar) } else { Ok((found, rest)) }
+        if more {
+            Err(Fault::Grammar)
+        } else {
+            Ok((found, rest))
+        }
     }
 
     /// A clause of a function or a value.
@@ -55,7 +72,15 @@ impl Exprs {
         let (name, rest) = ident(syms)?;
         let (arguments, rest) = atoms(self.alloc, rest)?;
         let (rhs, rest) = self.rhs(rest, Sign::Equals)?;
-        Ok((Clause { name, arguments, rhs, span: span_of(syms, rest) }, rest))
+        Ok((
+            Clause {
+                name,
+                arguments,
+                rhs,
+                span: span_of(syms, rest),
+            },
+            rest,
+        ))
     }
 
     /// A local binding: what begins with a lower name and no `@` is a signature or a clause, and any other a pattern.
@@ -80,7 +105,10 @@ impl Exprs {
         if self.depth == 0 {
             return Err(Fault::Grammar);
         }
-        let deeper = Exprs { alloc: self.alloc, depth: self.depth - 1 };
+        let deeper = Exprs {
+            alloc: self.alloc,
+            depth: self.depth - 1,
+        };
         let mut found = Items::new(self.alloc);
         let (mut more, mut rest) = opens_block(syms)?;
         for _turn in 0..syms.len() {
@@ -91,7 +119,11 @@ impl Exprs {
             found.push(next)?;
             (more, rest) = goes_on(after)?;
         }
-        if more { Err(Fault::Grammar) } else { Ok((found, rest)) }
+        if more {
+            Err(Fault::Grammar)
+        } else {
+            Ok((found, rest))
+        }
     }
 
     /// A `let` that begins a statement; with an `in` it is an expression.
@@ -99,10 +131,20 @@ impl Exprs {
     fn let_step<'a>(&self, syms: &'a [Sym]) -> Parsed<'a, Stmt> {
         let (binds, rest) = self.locals(expect(syms, Sign::Let)?)?;
         let Some(after) = eat(rest, Sign::In) else {
-            return Ok((Stmt::Let { binds, span: span_of(syms, rest) }, rest));
+            return Ok((
+                Stmt::Let {
+                    binds,
+                    span: span_of(syms, rest),
+                },
+                rest,
+            ));
         };
         let (body, rest) = self.expr(after, Holes::Refused)?;
-        let value = ExprTree::Let { binds, body, span: span_of(syms, rest) };
+        let value = ExprTree::Let {
+            binds,
+            body,
+            span: span_of(syms, rest),
+        };
         Ok((Stmt::Run { value }, rest))
     }
 
@@ -127,7 +169,11 @@ impl Exprs {
             found.push(next)?;
             (more, rest) = goes_on(after)?;
         }
-        if more { Err(Fault::Grammar) } else { Ok((found, rest)) }
+        if more {
+            Err(Fault::Grammar)
+        } else {
+            Ok((found, rest))
+        }
     }
 }
 

@@ -2,8 +2,12 @@
 
 use psc_ast::{ChainStep, ExprTree, TickStep};
 use psc_lex::{Sign, Tok};
-use psc_parse_atom::{Holes, bare_hole, begins_part, hole, is_operator, made, minus_alone, ticked, typed};
-use psc_parse_base::{Fault, Next, Parsed, Sym, content, mention, peek, sees, span_of, symbols, whole};
+use psc_parse_atom::{
+    Holes, bare_hole, begins_part, hole, is_operator, made, minus_alone, ticked, typed,
+};
+use psc_parse_base::{
+    Fault, Next, Parsed, Sym, content, mention, peek, sees, span_of, symbols, whole,
+};
 use psc_text::NoMemory;
 use sqlite_items::{Boxed, Items};
 use std::alloc::Global;
@@ -22,7 +26,10 @@ impl Exprs {
         if self.depth == 0 {
             return Err(Fault::Grammar);
         }
-        let deeper = Exprs { alloc: self.alloc, depth: self.depth - 1 };
+        let deeper = Exprs {
+            alloc: self.alloc,
+            depth: self.depth - 1,
+        };
         let (value, rest) = deeper.chain(syms, holes)?;
         typed(self.alloc, syms, value, rest)
     }
@@ -54,7 +61,15 @@ impl Exprs {
         if arguments.is_empty() {
             return Ok((function, rest));
         }
-        made(self.alloc, ExprTree::Call { function, arguments, span: span_of(syms, rest) }, rest)
+        made(
+            self.alloc,
+            ExprTree::Call {
+                function,
+                arguments,
+                span: span_of(syms, rest),
+            },
+            rest,
+        )
     }
 
     /// Names in backticks and the calls behind them, as many as come.
@@ -68,7 +83,10 @@ impl Exprs {
             }
             let (name, after) = ticked(self.alloc, rest)?;
             let (operand, after) = self.call(after, holes)?;
-            found.push(TickStep { name, operand: operand.into_inner() })?;
+            found.push(TickStep {
+                name,
+                operand: operand.into_inner(),
+            })?;
             rest = after;
         }
         Ok((found, rest))
@@ -82,7 +100,15 @@ impl Exprs {
         if steps.is_empty() {
             return Ok((first, rest));
         }
-        made(self.alloc, ExprTree::Ticks { first, rest: steps, span: span_of(syms, rest) }, rest)
+        made(
+            self.alloc,
+            ExprTree::Ticks {
+                first,
+                rest: steps,
+                span: span_of(syms, rest),
+            },
+            rest,
+        )
     }
 
     /// Calls joined by backticks, and the `-` before them that is no part of a literal.
@@ -93,7 +119,15 @@ impl Exprs {
         };
         let (operand, rest) = self.ticks(after, holes)?;
         let (minus, span) = (span_of(syms, after), span_of(syms, rest));
-        made(self.alloc, ExprTree::Negate { minus, operand, span }, rest)
+        made(
+            self.alloc,
+            ExprTree::Negate {
+                minus,
+                operand,
+                span,
+            },
+            rest,
+        )
     }
 
     /// Operators and the operands behind them, as many as come.
@@ -107,7 +141,10 @@ impl Exprs {
             }
             let (op, after) = mention(self.alloc, rest)?;
             let (operand, after) = self.operand(after, holes)?;
-            found.push(ChainStep { op, operand: operand.into_inner() })?;
+            found.push(ChainStep {
+                op,
+                operand: operand.into_inner(),
+            })?;
             rest = after;
         }
         Ok((found, rest))
@@ -120,7 +157,15 @@ impl Exprs {
         if steps.is_empty() {
             return Ok((first, rest));
         }
-        made(self.alloc, ExprTree::Chain { first, rest: steps, span: span_of(syms, rest) }, rest)
+        made(
+            self.alloc,
+            ExprTree::Chain {
+                first,
+                rest: steps,
+                span: span_of(syms, rest),
+            },
+            rest,
+        )
     }
 
     #[cycle(exprs)]
@@ -139,7 +184,10 @@ impl Exprs {
 
 /// The rules, with room for as many steps inwards as there are symbols, and the first one.
 pub(crate) fn rules(alloc: Global, syms: &[Sym]) -> Exprs {
-    Exprs { alloc, depth: syms.len().saturating_add(1) }
+    Exprs {
+        alloc,
+        depth: syms.len().saturating_add(1),
+    }
 }
 
 /// An expression.

@@ -23,7 +23,15 @@ impl Exprs {
     pub(crate) fn lambda<'a>(&self, syms: &'a [Sym]) -> Parsed<'a, Boxed<ExprTree>> {
         let (binders, rest) = some_atoms(self.alloc, expect(syms, Sign::Backslash)?)?;
         let (body, rest) = self.expr(expect(rest, Sign::Arrow)?, Holes::Refused)?;
-        made(self.alloc, ExprTree::Lambda { binders, body, span: span_of(syms, rest) }, rest)
+        made(
+            self.alloc,
+            ExprTree::Lambda {
+                binders,
+                body,
+                span: span_of(syms, rest),
+            },
+            rest,
+        )
     }
 
     #[cycle(exprs)]
@@ -31,7 +39,16 @@ impl Exprs {
         let (test, rest) = self.expr(expect(syms, Sign::If)?, Holes::Refused)?;
         let (then, rest) = self.expr(expect(rest, Sign::Then)?, Holes::Refused)?;
         let (otherwise, rest) = self.expr(expect(rest, Sign::Else)?, Holes::Refused)?;
-        made(self.alloc, ExprTree::If { test, then, otherwise, span: span_of(syms, rest) }, rest)
+        made(
+            self.alloc,
+            ExprTree::If {
+                test,
+                then,
+                otherwise,
+                span: span_of(syms, rest),
+            },
+            rest,
+        )
     }
 
     #[cycle(exprs)]
@@ -42,14 +59,30 @@ impl Exprs {
             return Err(Fault::Grammar);
         }
         let span = span_of(syms, rest);
-        made(self.alloc, ExprTree::Case { scrutinees, alternatives, span }, rest)
+        made(
+            self.alloc,
+            ExprTree::Case {
+                scrutinees,
+                alternatives,
+                span,
+            },
+            rest,
+        )
     }
 
     #[cycle(exprs)]
     pub(crate) fn let_in<'a>(&self, syms: &'a [Sym]) -> Parsed<'a, Boxed<ExprTree>> {
         let (binds, rest) = self.locals(expect(syms, Sign::Let)?)?;
         let (body, rest) = self.expr(expect(rest, Sign::In)?, Holes::Refused)?;
-        made(self.alloc, ExprTree::Let { binds, body, span: span_of(syms, rest) }, rest)
+        made(
+            self.alloc,
+            ExprTree::Let {
+                binds,
+                body,
+                span: span_of(syms, rest),
+            },
+            rest,
+        )
     }
 
     #[cycle(exprs)]
@@ -58,13 +91,28 @@ impl Exprs {
         if !ends_in_run(statements.as_slice()) {
             return Err(Fault::Grammar);
         }
-        made(self.alloc, ExprTree::Do { statements, span: span_of(syms, rest) }, rest)
+        made(
+            self.alloc,
+            ExprTree::Do {
+                statements,
+                span: span_of(syms, rest),
+            },
+            rest,
+        )
     }
 
     #[cycle(exprs)]
     pub(crate) fn steps_of_ado<'a>(&self, syms: &'a [Sym]) -> Parsed<'a, Boxed<ExprTree>> {
         let (statements, rest) = self.stmts(expect(syms, Sign::Ado)?)?;
         let (result, rest) = self.expr(expect(rest, Sign::In)?, Holes::Refused)?;
-        made(self.alloc, ExprTree::Ado { statements, result, span: span_of(syms, rest) }, rest)
+        made(
+            self.alloc,
+            ExprTree::Ado {
+                statements,
+                result,
+                span: span_of(syms, rest),
+            },
+            rest,
+        )
     }
 }

@@ -19,8 +19,14 @@ pub(crate) struct Draw {
 fn test_of(draw: Draw, span: Span) -> Test {
     let Draw { binder, value } = draw;
     match binder {
-        None => Test::Holds { value: value.into_inner() },
-        Some(binder) => Test::Binds { binder: binder.into_inner(), value: value.into_inner(), span },
+        None => Test::Holds {
+            value: value.into_inner(),
+        },
+        Some(binder) => Test::Binds {
+            binder: binder.into_inner(),
+            value: value.into_inner(),
+            span,
+        },
     }
 }
 
@@ -29,11 +35,23 @@ impl Exprs {
     pub(crate) fn draw<'a>(&self, syms: &'a [Sym]) -> Parsed<'a, Draw> {
         if !comes(syms, Sign::LeftArrow) {
             let (value, rest) = self.expr(syms, Holes::Refused)?;
-            return Ok((Draw { binder: None, value }, rest));
+            return Ok((
+                Draw {
+                    binder: None,
+                    value,
+                },
+                rest,
+            ));
         }
         let (binder, rest) = one_binder(self.alloc, syms)?;
         let (value, rest) = self.expr(expect(rest, Sign::LeftArrow)?, Holes::Refused)?;
-        Ok((Draw { binder: Some(binder), value }, rest))
+        Ok((
+            Draw {
+                binder: Some(binder),
+                value,
+            },
+            rest,
+        ))
     }
 
     /// Tests with commas between them.
@@ -60,7 +78,10 @@ impl Exprs {
             return Ok((Branch { body, locals: None }, rest));
         };
         let (binds, end) = self.locals(after)?;
-        let locals = Some(Locals { binds, span: span_of(rest, end) });
+        let locals = Some(Locals {
+            binds,
+            span: span_of(rest, end),
+        });
         Ok((Branch { body, locals }, end))
     }
 
@@ -75,7 +96,11 @@ impl Exprs {
             };
             let (tests, after) = self.tests(after)?;
             let (branch, after) = self.branch(after, by)?;
-            found.push(Guard { tests, branch, span: span_of(rest, after) })?;
+            found.push(Guard {
+                tests,
+                branch,
+                span: span_of(rest, after),
+            })?;
             rest = after;
         }
         Ok((found, rest))

@@ -71,7 +71,11 @@ impl Kinds {
         if self.depth == 0 {
             return Err(Fault::Grammar);
         }
-        Kinds { alloc: self.alloc, depth: self.depth - 1 }.whole(syms)
+        Kinds {
+            alloc: self.alloc,
+            depth: self.depth - 1,
+        }
+        .whole(syms)
     }
 
     #[cycle(kinds)]
@@ -82,7 +86,13 @@ impl Kinds {
         let (inner, rest) = self.inner(rest)?;
         let rest = expect(rest, Sign::RightParen)?;
         let inner = Boxed::new(self.alloc, inner)?;
-        Ok((KindTree::Paren { inner, span: span_of(syms, rest) }, rest))
+        Ok((
+            KindTree::Paren {
+                inner,
+                span: span_of(syms, rest),
+            },
+            rest,
+        ))
     }
 
     #[cycle(kinds)]
@@ -93,7 +103,14 @@ impl Kinds {
             return Ok((of, rest));
         }
         let of = Boxed::new(self.alloc, of)?;
-        Ok((KindTree::Row { rows, of, span: span_of(syms, rest) }, rest))
+        Ok((
+            KindTree::Row {
+                rows,
+                of,
+                span: span_of(syms, rest),
+            },
+            rest,
+        ))
     }
 
     #[cycle(kinds)]
@@ -123,12 +140,23 @@ fn arrow<'a>(
         return Ok((to, rest));
     }
     let to = Boxed::new(alloc, to)?;
-    Ok((KindTree::Arrow { from, to, span: span_of(syms, rest) }, rest))
+    Ok((
+        KindTree::Arrow {
+            from,
+            to,
+            span: span_of(syms, rest),
+        },
+        rest,
+    ))
 }
 
 /// A kind.
 pub fn kind(alloc: Global, syms: &[Sym]) -> Parsed<'_, KindTree> {
-    Kinds { alloc, depth: syms.len() }.whole(syms)
+    Kinds {
+        alloc,
+        depth: syms.len(),
+    }
+    .whole(syms)
 }
 
 /// `a` or `(a :: k)`
@@ -136,13 +164,27 @@ fn variable(alloc: Global, syms: &[Sym]) -> Parsed<'_, TypeVar> {
     let Some(rest) = eat(syms, Sign::LeftParen) else {
         let (name, rest) = ident(syms)?;
         let span = name.span;
-        return Ok((TypeVar { name, kind: None, span }, rest));
+        return Ok((
+            TypeVar {
+                name,
+                kind: None,
+                span,
+            },
+            rest,
+        ));
     };
     let (name, rest) = ident(rest)?;
     let rest = expect(rest, Sign::DoubleColon)?;
     let (kind, rest) = kind(alloc, rest)?;
     let rest = expect(rest, Sign::RightParen)?;
-    Ok((TypeVar { name, kind: Some(kind), span: span_of(syms, rest) }, rest))
+    Ok((
+        TypeVar {
+            name,
+            kind: Some(kind),
+            span: span_of(syms, rest),
+        },
+        rest,
+    ))
 }
 
 /// Type variables, as many as come.
@@ -163,5 +205,9 @@ pub fn variables(alloc: Global, syms: &[Sym]) -> Parsed<'_, Items<TypeVar>> {
 /// One type variable or more.
 pub fn some_variables(alloc: Global, syms: &[Sym]) -> Parsed<'_, Items<TypeVar>> {
     let (found, rest) = variables(alloc, syms)?;
-    if found.is_empty() { Err(Fault::Grammar) } else { Ok((found, rest)) }
+    if found.is_empty() {
+        Err(Fault::Grammar)
+    } else {
+        Ok((found, rest))
+    }
 }

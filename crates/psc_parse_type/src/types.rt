@@ -3,7 +3,10 @@
 use crate::kinds::some_variables;
 use psc_ast::{Constr, Mention, RowField, RowTree, Sig, TypePrefix, TypeStep, TypeTree};
 use psc_lex::{Sign, Tok};
-use psc_parse_base::{Fault, Next, Parsed, Sym, comes, content, eat, expect, ident, label, mention, peek, peek_second, sees, span_of, string, symbols, whole};
+use psc_parse_base::{
+    Fault, Next, Parsed, Sym, comes, content, eat, expect, ident, label, mention, peek,
+    peek_second, sees, span_of, string, symbols, whole,
+};
 use psc_text::NoMemory;
 use sqlite_items::{Boxed, Items};
 use std::alloc::Global;
@@ -71,7 +74,13 @@ fn token(alloc: Global, syms: &[Sym]) -> Parsed<'_, TypeTree> {
         }
         Next::Token(Sign::Str) => {
             let value = string(alloc, first.text.as_str())?;
-            Ok((TypeTree::Str { value, span: first.span }, rest))
+            Ok((
+                TypeTree::Str {
+                    value,
+                    span: first.span,
+                },
+                rest,
+            ))
         }
         Next::Token(Sign::Underscore | Sign::Integer) => Err(Fault::Outside),
         _ => {
@@ -96,14 +105,26 @@ fn boxed_token(alloc: Global, syms: &[Sym]) -> Parsed<'_, Boxed<TypeTree>> {
 fn function(alloc: Global, syms: &[Sym]) -> Parsed<'_, Boxed<TypeTree>> {
     let rest = expect(expect(syms, Sign::LeftParen)?, Sign::Arrow)?;
     let rest = expect(rest, Sign::RightParen)?;
-    made(alloc, TypeTree::Function { span: span_of(syms, rest) }, rest)
+    made(
+        alloc,
+        TypeTree::Function {
+            span: span_of(syms, rest),
+        },
+        rest,
+    )
 }
 
 /// `forall a b.`, from that name on.
 fn quantifier(alloc: Global, syms: &[Sym]) -> Parsed<'_, TypePrefix> {
     let (vars, rest) = some_variables(alloc, expect(syms, Sign::Forall)?)?;
     let rest = expect(rest, Sign::Dot)?;
-    Ok((TypePrefix::Forall { vars, span: span_of(syms, rest) }, rest))
+    Ok((
+        TypePrefix::Forall {
+            vars,
+            span: span_of(syms, rest),
+        },
+        rest,
+    ))
 }
 
 /// Whether `forall` comes as a quantifier, and not as the name of a variable.
@@ -121,7 +142,11 @@ impl Types {
         if self.depth == 0 {
             return Err(Fault::Grammar);
         }
-        Types { alloc: self.alloc, depth: self.depth - 1 }.whole(syms)
+        Types {
+            alloc: self.alloc,
+            depth: self.depth - 1,
+        }
+        .whole(syms)
     }
 
     #[cycle(types)]
@@ -129,7 +154,13 @@ impl Types {
         let (label, rest) = label(self.alloc, syms)?;
         let rest = expect(rest, Sign::DoubleColon)?;
         let (x_type, rest) = self.inner(rest)?;
-        Ok((RowField { label, x_type: x_type.into_inner() }, rest))
+        Ok((
+            RowField {
+                label,
+                x_type: x_type.into_inner(),
+            },
+            rest,
+        ))
     }
 
     #[cycle(types)]
@@ -157,7 +188,13 @@ impl Types {
             return Ok((RowTree { fields, tail: None }, rest));
         };
         let (tail, rest) = self.inner(after)?;
-        Ok((RowTree { fields, tail: Some(tail) }, rest))
+        Ok((
+            RowTree {
+                fields,
+                tail: Some(tail),
+            },
+            rest,
+        ))
     }
 
     /// A row in parentheses, from the left one on.
@@ -165,7 +202,14 @@ impl Types {
     fn row_in_parens<'a>(&self, syms: &'a [Sym]) -> Parsed<'a, Boxed<TypeTree>> {
         let (row, rest) = self.row(expect(syms, Sign::LeftParen)?)?;
         let rest = expect(rest, Sign::RightParen)?;
-        made(self.alloc, TypeTree::Row { row, span: span_of(syms, rest) }, rest)
+        made(
+            self.alloc,
+            TypeTree::Row {
+                row,
+                span: span_of(syms, rest),
+            },
+            rest,
+        )
     }
 
     /// What stands in parentheses, from the left one on.
@@ -180,7 +224,14 @@ impl Types {
         }
         let (inner, rest) = self.inner(open)?;
         let rest = expect(rest, Sign::RightParen)?;
-        made(self.alloc, TypeTree::Paren { inner, span: span_of(syms, rest) }, rest)
+        made(
+            self.alloc,
+            TypeTree::Paren {
+                inner,
+                span: span_of(syms, rest),
+            },
+            rest,
+        )
     }
 
     /// A row in braces, from the left one on.
@@ -188,7 +239,14 @@ impl Types {
     fn record<'a>(&self, syms: &'a [Sym]) -> Parsed<'a, Boxed<TypeTree>> {
         let (row, rest) = self.row(expect(syms, Sign::LeftBrace)?)?;
         let rest = expect(rest, Sign::RightBrace)?;
-        made(self.alloc, TypeTree::XRecord { row, span: span_of(syms, rest) }, rest)
+        made(
+            self.alloc,
+            TypeTree::XRecord {
+                row,
+                span: span_of(syms, rest),
+            },
+            rest,
+        )
     }
 
     #[cycle(types)]
@@ -224,7 +282,15 @@ impl Types {
             return Ok((function, rest));
         }
         let span = span_of(syms, rest);
-        made(self.alloc, TypeTree::Application { function, arguments, span }, rest)
+        made(
+            self.alloc,
+            TypeTree::Application {
+                function,
+                arguments,
+                span,
+            },
+            rest,
+        )
     }
 
     /// Operators and the operands behind them, as many as come.
@@ -238,7 +304,10 @@ impl Types {
             }
             let (op, after) = mention(self.alloc, rest)?;
             let (operand, after) = self.application(after)?;
-            found.push(TypeStep { op, operand: operand.into_inner() })?;
+            found.push(TypeStep {
+                op,
+                operand: operand.into_inner(),
+            })?;
             rest = after;
         }
         Ok((found, rest))
@@ -255,7 +324,15 @@ impl Types {
         if steps.is_empty() {
             return Ok((first, rest));
         }
-        made(self.alloc, TypeTree::Chain { first, rest: steps, span: span_of(syms, rest) }, rest)
+        made(
+            self.alloc,
+            TypeTree::Chain {
+                first,
+                rest: steps,
+                span: span_of(syms, rest),
+            },
+            rest,
+        )
     }
 
     #[cycle(types)]
@@ -265,7 +342,14 @@ impl Types {
         }
         let (class, rest) = mention(self.alloc, syms)?;
         let (arguments, rest) = self.atoms(rest)?;
-        Ok((Constr { class, arguments, span: span_of(syms, rest) }, rest))
+        Ok((
+            Constr {
+                class,
+                arguments,
+                span: span_of(syms, rest),
+            },
+            rest,
+        ))
     }
 
     /// Constraints with commas between them.
@@ -302,7 +386,13 @@ impl Types {
     fn given<'a>(&self, syms: &'a [Sym]) -> Parsed<'a, TypePrefix> {
         let (constraints, rest) = self.context(syms)?;
         let rest = expect(rest, Sign::FatArrow)?;
-        Ok((TypePrefix::Given { constraints, span: span_of(syms, rest) }, rest))
+        Ok((
+            TypePrefix::Given {
+                constraints,
+                span: span_of(syms, rest),
+            },
+            rest,
+        ))
     }
 
     /// What stands before the last type, and that type.
@@ -325,7 +415,10 @@ impl Types {
                     return Ok(((found, x_type), after));
                 };
                 let x_type = x_type.into_inner();
-                found.push(TypePrefix::Argument { x_type, span: span_of(rest, behind) })?;
+                found.push(TypePrefix::Argument {
+                    x_type,
+                    span: span_of(rest, behind),
+                })?;
                 rest = behind;
             }
         }
@@ -338,12 +431,23 @@ impl Types {
         if prefixes.is_empty() {
             return Ok((result, rest));
         }
-        made(self.alloc, TypeTree::Prefixed { prefixes, result, span: span_of(syms, rest) }, rest)
+        made(
+            self.alloc,
+            TypeTree::Prefixed {
+                prefixes,
+                result,
+                span: span_of(syms, rest),
+            },
+            rest,
+        )
     }
 }
 
 fn rules(alloc: Global, syms: &[Sym]) -> Types {
-    Types { alloc, depth: syms.len() }
+    Types {
+        alloc,
+        depth: syms.len(),
+    }
 }
 
 /// A type.
@@ -371,7 +475,14 @@ pub fn sig(alloc: Global, syms: &[Sym]) -> Parsed<'_, Sig> {
     let (name, rest) = ident(syms)?;
     let rest = expect(rest, Sign::DoubleColon)?;
     let (x_type, rest) = whole_type(alloc, rest)?;
-    Ok((Sig { name, x_type: x_type.into_inner(), span: span_of(syms, rest) }, rest))
+    Ok((
+        Sig {
+            name,
+            x_type: x_type.into_inner(),
+            span: span_of(syms, rest),
+        },
+        rest,
+    ))
 }
 
 /// The type that the tokens are.
