@@ -1,5 +1,5 @@
 -- What the stack of operators keeps.
-use Rattle.std.proofs.Common.{◌≡◌, ℕ, ◌+◌, ◌<◌, ◌≤◌, ◌⊎◌, inl, inr, zero, suc, List, [], ◌∷◌, ◌++◌, length, length-append, take, append_assoc, Some, slice_get, ap, refl, sym, ◌∙◌, arith, add-one, get_or}
+use Rattle.std.proofs.Common.{◌≡◌, ℕ, ◌+◌, ◌<◌, ◌≤◌, ◌⊎◌, inl, inr, zero, suc, List, [], ◌∷◌, ◌++◌, length, length-append, take, append_assoc, Option, Some, None, MatchOption, slice_get, ap, refl, sym, ◌∙◌, arith, add-one, get_or}
 use Rattle.std.proofs.lemmas.List.{length-take-le, take_all}
 use Rattle.std.proofs.lemmas.Option.{slice_get_within, slice_get-get_or}
 use Rattle.std.proofs.Math.Seq.{take-suc}
@@ -169,6 +169,10 @@ push_waits operators at pending pending' turns s lt e =
       stacked = e ∙ ap (λ (zs : List ℕ). zs ++ at ∷ []) s.holds.stacked ∙ ap (λ (k : ℕ). numbers s.waiters ++ k ∷ []) size;
       walked = s.holds.walked;
     }
+
+-- the same, where settling found no clash
+pub push_told : (operators : List Operator) (at : ℕ) (pending pending' : List ℕ) (turns : List Turn) (found : Option Clash) → found ≡ None → MatchOption found (Settles operators at pending turns) (IsTheClash operators) → at < length operators → pending' ≡ pending ++ at ∷ [] → Waits operators (at + 1) pending' turns
+push_told operators at pending pending' turns found is told lt e = push_waits operators at pending pending' turns (rw is at told) lt e
 
 -- no operator waits
 pub settled_empty : (operators : List Operator) (at : ℕ) (pending : List ℕ) (turns : List Turn) → HoldsLeft operators at pending turns → pending ≡ [] → Settles operators at pending turns

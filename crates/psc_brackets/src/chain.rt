@@ -72,7 +72,8 @@ pub fn bracket(alloc: Global, operators: &[Operator]) -> Result<Result<Vec<Turn>
     let mut pending = Vec::new(alloc);
     for later in 0..operators.len() {
         turns.push(Turn::Operand(later))?;
-        match settle(operators, &mut pending, &mut turns, later)? {
+        let found = settle(operators, &mut pending, &mut turns, later)?;
+        match found {
             Some(clash) => return Ok(Err(clash)),
             None => pending.push(later)?,
         }
