@@ -106,12 +106,12 @@ module _ (a b : Operator) (between : List Operator) (power : a.power ≡ b.power
     | Same p q s ↦ same_power_right a b (rw q at (all_at side.Right between b behind o (rw s at (all_below side.Right r o right.2 right.3)))) power not_right
     | Before m p q ↦ apart r m behind right.2 q
     | Behind m p q ↦ elim (cut between b behind m o (operators_of r) q) [
-        | Same u v w ↦ same_power_left a b (rw (← v) at (all_at side.Left before a m o (rw p at (all_below side.Left l o right.0 right.1)))) power not_left
-        | Before k u v ↦ apart l before k right.0 (p ∙ ap (λ (zs : List Operator). before ++ a ∷ zs) u)
-        | Behind k u v ↦ not_below a o
-            (all_at side.Left before a m o (rw p at (all_below side.Left l o right.0 right.1)))
-            (tighter_at m o k a (rw u at tighter))
-      ]
+      | Same u v w ↦ same_power_left a b (rw (← v) at (all_at side.Left before a m o (rw p at (all_below side.Left l o right.0 right.1)))) power not_left
+      | Before k u v ↦ apart l before k right.0 (p ∙ ap (λ (zs : List Operator). before ++ a ∷ zs) u)
+      | Behind k u v ↦ not_below a o
+          (all_at side.Left before a m o (rw p at (all_below side.Left l o right.0 right.1)))
+          (tighter_at m o k a (rw u at tighter))
+    ]
   ]
 
 -- a right tree has no two operators that clash

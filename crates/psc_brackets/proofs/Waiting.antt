@@ -34,11 +34,12 @@ unfolding folded
 folded-right [] tree s r t = r
 folded-right (w ∷ ws) tree s r t = folded-right ws (Node w.left w.operator tree) s.0 (s.1, s.2, r, below tree t) (on ws s.3)
   where
-  below : (tree : Tree) → TreeOnTop (w ∷ ws) tree → MayStandBelow side.Right tree w.operator
-  below Leaf t = tt
-  below (Node _ _ _) t = t
-  on : (vs : List Waiter) → OnTop vs w.operator → OnTop vs w.operator
-  on vs t = t
+    below : (tree : Tree) → TreeOnTop (w ∷ ws) tree → MayStandBelow side.Right tree w.operator
+    below Leaf t = tt
+    below (Node _ _ _) t = t
+
+    on : (vs : List Waiter) → OnTop vs w.operator → OnTop vs w.operator
+    on vs t = t
 
 folded-reads : (ws : List Waiter) (tree : Tree) → operators_of (folded ws tree) ≡ read ws ++ operators_of tree
 unfolding folded
@@ -92,18 +93,20 @@ take_top operators at pending turns w ws tree h front last e f = record {
   walked = told_more;
 }
   where
-  below : (tree : Tree) → TreeOnTop (w ∷ ws) tree → MayStandBelow side.Right tree w.operator
-  below Leaf t = tt
-  below (Node _ _ _) t = t
-  behind : length (read (w ∷ ws)) ≡ length (read ws) + length (operators_of w.left) + 1
-  behind = length-append (read ws) (operators_of w.left ++ w.operator ∷ []) ∙ (let k = length-append (operators_of w.left) (w.operator ∷ []) in omega arith)
-  told_more : turns ++ turn.Operator last ∷ [] ≡ told ws ++ walk (Node w.left w.operator tree) (length (read ws))
-  told_more =
-      let number : last ≡ length (read ws) + length (operators_of w.left) = f ∙ length-append (read ws) (operators_of w.left) in
-      let start : turns ≡ (told ws ++ walk w.left (length (read ws))) ++ walk tree (length (read ws) + length (operators_of w.left) + 1) = h.walked ∙ ap (λ (k : ℕ). (told ws ++ walk w.left (length (read ws))) ++ walk tree k) behind in
-      ap (λ (zs : List Turn). zs ++ turn.Operator last ∷ []) (start ∙ append_assoc (told ws) (walk w.left (length (read ws))) (walk tree (length (read ws) + length (operators_of w.left) + 1)))
-      ∙ append_assoc (told ws) (walk w.left (length (read ws)) ++ walk tree (length (read ws) + length (operators_of w.left) + 1)) (turn.Operator last ∷ [])
-      ∙ ap (λ (k : ℕ). told ws ++ ((walk w.left (length (read ws)) ++ walk tree (length (read ws) + length (operators_of w.left) + 1)) ++ turn.Operator k ∷ [])) number
+    below : (tree : Tree) → TreeOnTop (w ∷ ws) tree → MayStandBelow side.Right tree w.operator
+    below Leaf t = tt
+    below (Node _ _ _) t = t
+
+    behind : length (read (w ∷ ws)) ≡ length (read ws) + length (operators_of w.left) + 1
+    behind = length-append (read ws) (operators_of w.left ++ w.operator ∷ []) ∙ (let k = length-append (operators_of w.left) (w.operator ∷ []) in omega arith)
+
+    told_more : turns ++ turn.Operator last ∷ [] ≡ told ws ++ walk (Node w.left w.operator tree) (length (read ws))
+    told_more =
+        let number : last ≡ length (read ws) + length (operators_of w.left) = f ∙ length-append (read ws) (operators_of w.left) in
+        let start : turns ≡ (told ws ++ walk w.left (length (read ws))) ++ walk tree (length (read ws) + length (operators_of w.left) + 1) = h.walked ∙ ap (λ (k : ℕ). (told ws ++ walk w.left (length (read ws))) ++ walk tree k) behind in
+        ap (λ (zs : List Turn). zs ++ turn.Operator last ∷ []) (start ∙ append_assoc (told ws) (walk w.left (length (read ws))) (walk tree (length (read ws) + length (operators_of w.left) + 1)))
+        ∙ append_assoc (told ws) (walk w.left (length (read ws)) ++ walk tree (length (read ws) + length (operators_of w.left) + 1)) (turn.Operator last ∷ [])
+        ∙ ap (λ (k : ℕ). told ws ++ ((walk w.left (length (read ws)) ++ walk tree (length (read ws) + length (operators_of w.left) + 1)) ++ turn.Operator k ∷ [])) number
 
 -- the same for any stack with that top
 pub fold_top : (operators : List Operator) (at : ℕ) (pending : List ℕ) (turns : List Turn) (turns' : List Turn) (front : List ℕ) (last : ℕ) → HoldsTree operators at pending turns → pending ≡ front ++ last ∷ [] → turns' ≡ turns ++ turn.Operator last ∷ [] → HoldsTree operators at front turns'
@@ -178,9 +181,9 @@ push_told operators at pending pending' turns found is told lt e = push_waits op
 pub settled_empty : (operators : List Operator) (at : ℕ) (pending : List ℕ) (turns : List Turn) → HoldsLeft operators at pending turns → pending ≡ [] → Settles operators at pending turns
 settled_empty operators at pending turns h e = record { waiters = h.waiters; tree = h.tree; holds = h.holds; below = h.below; onto = λ operator g. on h.waiters (sym h.holds.stacked ∙ e) operator }
   where
-  on : (ws : List Waiter) → numbers ws ≡ [] → (operator : Operator) → OnTop ws operator
-  on [] n operator = tt
-  on (w ∷ ws) n operator = absurd (none_last (numbers ws) (length (read ws) + length (operators_of w.left)) n)
+    on : (ws : List Waiter) → numbers ws ≡ [] → (operator : Operator) → OnTop ws operator
+    on [] n operator = tt
+    on (w ∷ ws) n operator = absurd (none_last (numbers ws) (length (read ws) + length (operators_of w.left)) n)
 
 module _ (operators : List Operator) (at : ℕ) (pending : List ℕ) (turns : List Turn) (front : List ℕ) (last : ℕ) (h : HoldsLeft operators at pending turns) (popped : pending ≡ front ++ last ∷ []) (within : at < length operators) where
   top : Top operators at front last turns h.waiters h.tree
@@ -299,8 +302,8 @@ module _ (operators : List Operator) (at : ℕ) (pending : List ℕ) (turns : Li
 pub ended : (operators : List Operator) (pending : List ℕ) (turns : List Turn) → HoldsTree operators (length operators) pending turns → pending ≡ [] → IsTheWalk operators turns
 ended operators pending turns h e = whole h.waiters h.tree h.holds
   where
-  whole : (ws : List Waiter) (tree : Tree) → Holds operators (length operators) pending turns ws tree → IsTheWalk operators turns
-  whole [] tree g =
-      let over : operators_of tree ≡ operators = g.done ∙ take_all (length operators) operators (omega arith) in
-      record { tree = tree; over = over; right = g.right; walked = g.walked; one = λ other o r. one_tree other tree r g.right (o ∙ sym over) }
-  whole (w ∷ ws) tree g = absurd (none_last (numbers ws) (length (read ws) + length (operators_of w.left)) (sym g.stacked ∙ e))
+    whole : (ws : List Waiter) (tree : Tree) → Holds operators (length operators) pending turns ws tree → IsTheWalk operators turns
+    whole [] tree g =
+        let over : operators_of tree ≡ operators = g.done ∙ take_all (length operators) operators (omega arith) in
+        record { tree = tree; over = over; right = g.right; walked = g.walked; one = λ other o r. one_tree other tree r g.right (o ∙ sym over) }
+    whole (w ∷ ws) tree g = absurd (none_last (numbers ws) (length (read ws) + length (operators_of w.left)) (sym g.stacked ∙ e))

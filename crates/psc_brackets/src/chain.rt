@@ -107,7 +107,11 @@ fn settle(
 }
 
 /// Reads the last operand, and ends all pending operators.
-fn finish(operators: &[Operator], pending: &mut Vec<usize>, turns: &mut Vec<Turn>) -> Result<(), NoMemory>
+fn finish(
+    operators: &[Operator],
+    pending: &mut Vec<usize>,
+    turns: &mut Vec<Turn>,
+) -> Result<(), NoMemory>
     requires { Waits operators.now (length operators.now) pending.old.items turns.old.items }
     ensures { OnOk result (IsTheWalk operators.now turns.new.items) }
 {
@@ -116,7 +120,11 @@ fn finish(operators: &[Operator], pending: &mut Vec<usize>, turns: &mut Vec<Turn
 }
 
 /// Ends all pending operators.
-fn end_all(operators: &[Operator], pending: &mut Vec<usize>, turns: &mut Vec<Turn>) -> Result<(), NoMemory>
+fn end_all(
+    operators: &[Operator],
+    pending: &mut Vec<usize>,
+    turns: &mut Vec<Turn>,
+) -> Result<(), NoMemory>
     requires { HoldsTree operators.now (length operators.now) pending.old.items turns.old.items }
     ensures { OnOk result (IsTheWalk operators.now turns.new.items) }
 {

@@ -7,7 +7,6 @@
 #![tactic(auto)]
 
 mod chain;
-
 #[cfg(test)]
 mod tests;
 

@@ -6,13 +6,34 @@ use std::test::Fail;
 
 fn operator(word: &str) -> Operator {
     match word {
-        "+" => Operator { side: Side::Left, power: 6 },
-        "-" => Operator { side: Side::Left, power: 6 },
-        "*" => Operator { side: Side::Left, power: 7 },
-        "<>" => Operator { side: Side::Right, power: 5 },
-        ":" => Operator { side: Side::Right, power: 6 },
-        "==" => Operator { side: Side::Neither, power: 4 },
-        _ => Operator { side: Side::Right, power: 0 },
+        "+" => Operator {
+            side: Side::Left,
+            power: 6,
+        },
+        "-" => Operator {
+            side: Side::Left,
+            power: 6,
+        },
+        "*" => Operator {
+            side: Side::Left,
+            power: 7,
+        },
+        "<>" => Operator {
+            side: Side::Right,
+            power: 5,
+        },
+        ":" => Operator {
+            side: Side::Right,
+            power: 6,
+        },
+        "==" => Operator {
+            side: Side::Neither,
+            power: 4,
+        },
+        _ => Operator {
+            side: Side::Right,
+            power: 0,
+        },
     }
 }
 
@@ -58,19 +79,40 @@ fn each_operator_takes_what_binds_tighter(rt: HostRuntime) -> Result<(), Fail> {
     assert_eq!(rt; shown(&rt, &["+"])?.as_str(), "(0 + 1)");
     assert_eq!(rt; shown(&rt, &["+", "*"])?.as_str(), "(0 + (1 * 2))");
     assert_eq!(rt; shown(&rt, &["*", "+"])?.as_str(), "((0 * 1) + 2)");
-    assert_eq!(rt; shown(&rt, &["+", "-", "+"])?.as_str(), "(((0 + 1) - 2) + 3)");
-    assert_eq!(rt; shown(&rt, &["<>", "<>", "<>"])?.as_str(), "(0 <> (1 <> (2 <> 3)))");
-    assert_eq!(rt; shown(&rt, &["$", "==", "+", "*", "-", "$", "<>"])?.as_str(), "(0 $ ((1 == ((2 + (3 * 4)) - 5)) $ (6 <> 7)))");
+    assert_eq!(rt;
+        shown(&rt, &["+", "-", "+"])?.as_str(),
+        "(((0 + 1) - 2) + 3)"
+    );
+    assert_eq!(rt;
+        shown(&rt, &["<>", "<>", "<>"])?.as_str(),
+        "(0 <> (1 <> (2 <> 3)))"
+    );
+    assert_eq!(rt;
+        shown(&rt, &["$", "==", "+", "*", "-", "$", "<>"])?.as_str(),
+        "(0 $ ((1 == ((2 + (3 * 4)) - 5)) $ (6 <> 7)))"
+    );
     Ok(())
 }
 
 #[test]
 fn the_first_operator_that_clashes_is_told(rt: HostRuntime) -> Result<(), Fail> {
     assert_eq!(rt; shown(&rt, &["==", "=="])?.as_str(), "clash of 0 and 1");
-    assert_eq!(rt; shown(&rt, &["==", "+", "*", "=="])?.as_str(), "clash of 0 and 3");
-    assert_eq!(rt; shown(&rt, &["==", "$", "=="])?.as_str(), "((0 == 1) $ (2 == 3))");
+    assert_eq!(rt;
+        shown(&rt, &["==", "+", "*", "=="])?.as_str(),
+        "clash of 0 and 3"
+    );
+    assert_eq!(rt;
+        shown(&rt, &["==", "$", "=="])?.as_str(),
+        "((0 == 1) $ (2 == 3))"
+    );
     assert_eq!(rt; shown(&rt, &["+", ":"])?.as_str(), "clash of 0 and 1");
-    assert_eq!(rt; shown(&rt, &[":", "*", "+", "==", "=="])?.as_str(), "clash of 0 and 2");
-    assert_eq!(rt; shown(&rt, &["<>", "+", "<>", ":", "*", ":"])?.as_str(), "(0 <> ((1 + 2) <> (3 : ((4 * 5) : 6))))");
+    assert_eq!(rt;
+        shown(&rt, &[":", "*", "+", "==", "=="])?.as_str(),
+        "clash of 0 and 2"
+    );
+    assert_eq!(rt;
+        shown(&rt, &["<>", "+", "<>", ":", "*", ":"])?.as_str(),
+        "(0 <> ((1 + 2) <> (3 : ((4 * 5) : 6))))"
+    );
     Ok(())
 }
