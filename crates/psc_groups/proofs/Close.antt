@@ -43,10 +43,10 @@ module _ (E : ℕ → ℕ → Type 0) (marks marks' : List Mark) (line : List �
     ]
   ]
     where
-    split : (m n : ℕ) → (m ≤ n) ⊎ (n < m)
-    split zero n = inl (omega arith)
-    split (suc m) zero = inr (omega arith)
-    split (suc m) (suc n) = elim (split m n) [ inl h ↦ inl (omega arith) | inr h ↦ inr (omega arith) ]
+      split : (m n : ℕ) → (m ≤ n) ⊎ (n < m)
+      split zero n = inl (omega arith)
+      split (suc m) zero = inr (omega arith)
+      split (suc m) (suc n) = elim (split m n) [ inl h ↦ inl (omega arith) | inr h ↦ inr (omega arith) ]
 
   taken_from : (p v : ℕ) → slice_get line' p ≡ Some v → (p < last.open_from) × (slice_get line p ≡ Some v)
   taken_from p v e = after_take last.open_from line p v e
@@ -68,10 +68,10 @@ module _ (E : ℕ → ℕ → Type 0) (marks marks' : List Mark) (line : List �
     | inr s ↦ OnPath q (stays v (Open q) e (λ p lp g. let z = same_place p q v g (path.placed v q e) in omega arith)) le
   ]
     where
-    split : (m n : ℕ) → (m ≤ n) ⊎ (n < m)
-    split zero n = inl (omega arith)
-    split (suc m) zero = inr (omega arith)
-    split (suc m) (suc n) = elim (split m n) [ inl h ↦ inl (omega arith) | inr h ↦ inr (omega arith) ]
+      split : (m n : ℕ) → (m ≤ n) ⊎ (n < m)
+      split zero n = inl (omega arith)
+      split (suc m) zero = inr (omega arith)
+      split (suc m) (suc n) = elim (split m n) [ inl h ↦ inl (omega arith) | inr h ↦ inr (omega arith) ]
   kept i v x f (Awaited t w e to le) = Awaited t w e to le
 
   -- what a declaration of the new group mentions is done

@@ -72,9 +72,9 @@ module _ (E : ℕ → ℕ → Type 0) (marks : List Mark) (line : List ℕ) (wai
     | inl h ↦ elim (after_push line d q b f) [
       | inl g ↦ rw (h.1, g.1) (here d)
       | inr g ↦ absurd (elim (t (length parts) part (pushed parts part)) [
-          | inl s ↦ (let w = within line q b g in omega arith)
-          | inr s ↦ (let z = h.0 in omega arith)
-        ])
+        | inl s ↦ (let w = within line q b g in omega arith)
+        | inr s ↦ (let z = h.0 in omega arith)
+      ])
     ]
     | inr h ↦ elim (after_push line d q b f) [
       | inl g ↦ absurd (let w = within line p a h in let z = g.0 in omega arith)
@@ -109,9 +109,9 @@ module _ (E : ℕ → ℕ → Type 0) (marks : List Mark) (line : List ℕ) (wai
   no_part : length parts ≡ 0 → parts ≡ []
   no_part e = empty parts e
     where
-    empty : (xs : List Part) → length xs ≡ 0 → xs ≡ []
-    empty [] h = refl
-    empty (x ∷ xs) h = absurd (omega arith)
+      empty : (xs : List Part) → length xs ≡ 0 → xs ≡ []
+      empty [] h = refl
+      empty (x ∷ xs) h = absurd (omega arith)
 
   first' : (x : Part) → slice_get parts' 0 ≡ Some x → (x.open_from ≡ 0) × (x.waiting_from ≡ 0)
   first' x e = elim (after_push parts part 0 x e) [
@@ -122,9 +122,9 @@ module _ (E : ℕ → ℕ → Type 0) (marks : List Mark) (line : List ℕ) (wai
   grounded' : parts' ≡ [] → (line' ≡ []) × (waiting' ≡ [])
   grounded' e = absurd (none parts e)
     where
-    none : (xs : List Part) → xs ++ part ∷ [] ≡ [] → ⊥
-    none [] h = cc
-    none (x ∷ xs) h = cc
+      none : (xs : List Part) → xs ++ part ∷ [] ≡ [] → ⊥
+      none [] h = cc
+      none (x ∷ xs) h = cc
 
   got : (j : ℕ) (w : Waiting) (ys : List ℕ) → slice_get (map (awaiting place) ys) j ≡ Some w → (w.from ≡ place) × (slice_get ys j ≡ Some w.to)
   got j w [] e = absurd cc
@@ -152,9 +152,9 @@ module _ (E : ℕ → ℕ → Type 0) (marks : List Mark) (line : List ℕ) (wai
   above' : (t i : ℕ) (w : Waiting) (x : Part) → slice_get waiting' t ≡ Some w → slice_get parts' i ≡ Some x → x.waiting_from ≤ t → x.open_from ≤ w.from
   above' t i w x e f le = elim (waits t w e) [
     | inl h ↦ (let z = h.1 in elim (after_push parts part i x f) [
-        | inl g ↦ rw (g.1, z) (omega arith)
-        | inr g ↦ (let r = (path.inside i x g).0 in omega arith)
-      ])
+      | inl g ↦ rw (g.1, z) (omega arith)
+      | inr g ↦ (let r = (path.inside i x g).0 in omega arith)
+    ])
     | inr h ↦ elim (after_push parts part i x f) [
       | inl g ↦ absurd (let s = within waiting t w h in let z : x.waiting_from ≡ length waiting = ap (λ (y : Part). y.waiting_from) g.1 in omega arith)
       | inr g ↦ path.above t i w x h g le
@@ -164,9 +164,9 @@ module _ (E : ℕ → ℕ → Type 0) (marks : List Mark) (line : List ℕ) (wai
   below' : (t i : ℕ) (w : Waiting) (x : Part) → slice_get waiting' t ≡ Some w → slice_get parts' i ≡ Some x → t < x.waiting_from → w.from < x.open_from
   below' t i w x e f lt = elim (waits t w e) [
     | inl h ↦ absurd (let z = h.0 in elim (after_push parts part i x f) [
-        | inl g ↦ (let y : x.waiting_from ≡ length waiting = ap (λ (y : Part). y.waiting_from) g.1 in omega arith)
-        | inr g ↦ (let r = (path.inside i x g).1 in omega arith)
-      ])
+      | inl g ↦ (let y : x.waiting_from ≡ length waiting = ap (λ (y : Part). y.waiting_from) g.1 in omega arith)
+      | inr g ↦ (let r = (path.inside i x g).1 in omega arith)
+    ])
     | inr h ↦ elim (after_push parts part i x f) [
       | inl g ↦ (let r = path.known t w h in let s = within line w.from r.0 r.1 in let z : x.open_from ≡ place = ap (λ (y : Part). y.open_from) g.1 in omega arith)
       | inr g ↦ path.below t i w x h g lt

@@ -66,11 +66,12 @@ module _ (m : List (Vec ℕ Global)) (numbers : List ℕ) (count : ℕ) where
     looped = λ a b g x seen ea eb. absurd (unseen a x.place seen);
   }
     where
-    none : (g h : ℕ) → Mentions lists g h → ⊥
-    none g h x = let n : x.list.items ≡ [] = e.each g x.list x.has in let z : slice_get {X = ℕ} [] x.place ≡ Some h = rw n at x.at in cc
-    unseen : (a p : ℕ) → IsSeen 0 0 a p → ⊥
-    unseen a p (inl lt) = omega arith
-    unseen a p (inr s) = omega arith
+      none : (g h : ℕ) → Mentions lists g h → ⊥
+      none g h x = let n : x.list.items ≡ [] = e.each g x.list x.has in let z : slice_get {X = ℕ} [] x.place ≡ Some h = rw n at x.at in cc
+
+      unseen : (a p : ℕ) → IsSeen 0 0 a p → ⊥
+      unseen a p (inl lt) = omega arith
+      unseen a p (inr s) = omega arith
 
   pub more_links : (at place from to b : ℕ) (list : Vec ℕ Global) (old new : Links) → AreLinks m numbers count at place old.lists.items old.recursive.items → slice_get m at ≡ Some list → slice_get list.items place ≡ Some b → slice_get numbers at ≡ Some from → slice_get numbers b ≡ Some to → from < count → AddsLink old new from to → AreLinks m numbers count at (place + 1) new.lists.items new.recursive.items
   more_links at place from to b list old new are has is ea eb lt adds = elim (same_or_not from to) [
@@ -78,74 +79,79 @@ module _ (m : List (Vec ℕ Global)) (numbers : List ℕ) (count : ℕ) where
     | inr ne ↦ (let p = adds.other ne in rw p.1 (other ne new.lists.items p.0))
   ]
     where
-    mention : Mentions m at b
-    mention = record { list = list; place = place; has = has; at = is }
-    -- the mention at this place, or one that was seen
-    split : (a p : ℕ) → IsSeen at (place + 1) a p → IsSeen at place a p ⊎ ((a ≡ at) × (p ≡ place))
-    split a p (inl less) = inl (inl less)
-    split a p (inr s) = elim (same_or_not p place) [ inl e ↦ inr (s.0, e) | inr ne ↦ inl (inr (s.0, let y = s.1 in let z = ne in omega arith)) ]
-    target : (c : ℕ) (x : Mentions m at c) → x.place ≡ place → c ≡ b
-    target c x e = let same : x.list ≡ list = same_item m at x.list list x.has has in same_item list.items place c b (rw (← same) (rw (← e) x.at)) is
-    itself : from ≡ to → AreLinks m numbers count at (place + 1) old.lists.items (slice_set old.recursive.items from true)
-    itself e = record {
-      links_sized = are.links_sized;
-      recursive_sized = length-set old.recursive.items from true ∙ are.recursive_sized;
-      sound = are.sound;
-      apart = are.apart;
-      linked = λ a c g h x seen fa fc ne. elim (split a x.place seen) [
-        | inl s ↦ are.linked a c g h x s fa fc ne
-        | inr s ↦ absurd (at_place a c g h x s fa fc ne)
-      ];
-      loops = λ g set. elim (after_write old.recursive.items from true g true set) [
-        | inl s ↦ rw s.0 (record { a = at; b = b; mention = mention; from = ea; to = rw e eb })
-        | inr s ↦ are.loops g s.1
-      ];
-      looped = λ a c g x seen fa fc. elim (split a x.place seen) [
-        | inl s ↦ elim (same_or_not g from) [
-          | inl y ↦ rw y set_now
-          | inr ne ↦ unwritten old.recursive.items from true g true ne (are.looped a c g x s fa fc)
-        ]
-        | inr s ↦ (let y : g ≡ from = same_item numbers at g from (rw s.0 at fa) ea in rw y set_now)
-      ];
-    }
-      where
-      set_now : slice_get (slice_set old.recursive.items from true) from ≡ Some true
-      set_now = let v = some_at old.recursive.items from (let z = are.recursive_sized in omega arith) in written old.recursive.items from true v.0 v.1
-      at_place : (a c g h : ℕ) (x : Mentions m a c) → (a ≡ at) × (x.place ≡ place) → slice_get numbers a ≡ Some g → slice_get numbers c ≡ Some h → (g ≡ h → ⊥) → ⊥
-      at_place a c g h x s fa fc ne =
-          let y : Mentions m at c = record { list = x.list; place = x.place; has = rw (← s.0) x.has; at = x.at } in
-          let t : c ≡ b = target c y s.1 in
-          ne (same_item numbers at g from (rw s.0 at fa) ea ∙ e ∙ sym (same_item numbers b h to (rw t at fc) eb))
-    other : (from ≡ to → ⊥) → (lists : List (Vec ℕ Global)) → Adds old.lists.items lists from to → AreLinks m numbers count at (place + 1) lists old.recursive.items
-    other ne lists a = record {
-      links_sized = a.sized ∙ are.links_sized;
-      recursive_sized = are.recursive_sized;
-      sound = λ g h x. elim (added old.lists.items lists from to g h a x) [
-        | inl o ↦ are.sound g h o
-        | inr s ↦ rw (s.0, s.1) (record { a = at; b = b; mention = mention; from = ea; to = eb })
-      ];
-      apart = λ g h x e. elim (added old.lists.items lists from to g h a x) [
-        | inl o ↦ are.apart g h o e
-        | inr s ↦ ne (sym s.0 ∙ e ∙ s.1)
-      ];
-      linked = λ d c g h x seen fa fc never. elim (split d x.place seen) [
-        | inl s ↦ kept old.lists.items lists from to g h a (are.linked d c g h x s fa fc never)
-        | inr s ↦ (
-            let y : Mentions m at c = record { list = x.list; place = x.place; has = rw (← s.0) x.has; at = x.at } in
-            let t : c ≡ b = target c y s.1 in
-            let one : g ≡ from = same_item numbers at g from (rw s.0 at fa) ea in
-            let two : h ≡ to = same_item numbers b h to (rw t at fc) eb in
-            rw (one, two) (stands_there old.lists.items lists from to a (let z = are.links_sized in omega arith)))
-      ];
-      loops = are.loops;
-      looped = λ d c g x seen fa fc. elim (split d x.place seen) [
-        | inl s ↦ are.looped d c g x s fa fc
-        | inr s ↦ absurd (
-            let y : Mentions m at c = record { list = x.list; place = x.place; has = rw (← s.0) x.has; at = x.at } in
-            let t : c ≡ b = target c y s.1 in
-            ne (sym (same_item numbers at g from (rw s.0 at fa) ea) ∙ same_item numbers b g to (rw t at fc) eb))
-      ];
-    }
+      mention : Mentions m at b
+      mention = record { list = list; place = place; has = has; at = is }
+
+      -- the mention at this place, or one that was seen
+      split : (a p : ℕ) → IsSeen at (place + 1) a p → IsSeen at place a p ⊎ ((a ≡ at) × (p ≡ place))
+      split a p (inl less) = inl (inl less)
+      split a p (inr s) = elim (same_or_not p place) [ inl e ↦ inr (s.0, e) | inr ne ↦ inl (inr (s.0, let y = s.1 in let z = ne in omega arith)) ]
+
+      target : (c : ℕ) (x : Mentions m at c) → x.place ≡ place → c ≡ b
+      target c x e = let same : x.list ≡ list = same_item m at x.list list x.has has in same_item list.items place c b (rw (← same) (rw (← e) x.at)) is
+
+      itself : from ≡ to → AreLinks m numbers count at (place + 1) old.lists.items (slice_set old.recursive.items from true)
+      itself e = record {
+        links_sized = are.links_sized;
+        recursive_sized = length-set old.recursive.items from true ∙ are.recursive_sized;
+        sound = are.sound;
+        apart = are.apart;
+        linked = λ a c g h x seen fa fc ne. elim (split a x.place seen) [
+          | inl s ↦ are.linked a c g h x s fa fc ne
+          | inr s ↦ absurd (at_place a c g h x s fa fc ne)
+        ];
+        loops = λ g set. elim (after_write old.recursive.items from true g true set) [
+          | inl s ↦ rw s.0 (record { a = at; b = b; mention = mention; from = ea; to = rw e eb })
+          | inr s ↦ are.loops g s.1
+        ];
+        looped = λ a c g x seen fa fc. elim (split a x.place seen) [
+          | inl s ↦ elim (same_or_not g from) [
+            | inl y ↦ rw y set_now
+            | inr ne ↦ unwritten old.recursive.items from true g true ne (are.looped a c g x s fa fc)
+          ]
+          | inr s ↦ (let y : g ≡ from = same_item numbers at g from (rw s.0 at fa) ea in rw y set_now)
+        ];
+      }
+        where
+          set_now : slice_get (slice_set old.recursive.items from true) from ≡ Some true
+          set_now = let v = some_at old.recursive.items from (let z = are.recursive_sized in omega arith) in written old.recursive.items from true v.0 v.1
+
+          at_place : (a c g h : ℕ) (x : Mentions m a c) → (a ≡ at) × (x.place ≡ place) → slice_get numbers a ≡ Some g → slice_get numbers c ≡ Some h → (g ≡ h → ⊥) → ⊥
+          at_place a c g h x s fa fc ne =
+              let y : Mentions m at c = record { list = x.list; place = x.place; has = rw (← s.0) x.has; at = x.at } in
+              let t : c ≡ b = target c y s.1 in
+              ne (same_item numbers at g from (rw s.0 at fa) ea ∙ e ∙ sym (same_item numbers b h to (rw t at fc) eb))
+
+      other : (from ≡ to → ⊥) → (lists : List (Vec ℕ Global)) → Adds old.lists.items lists from to → AreLinks m numbers count at (place + 1) lists old.recursive.items
+      other ne lists a = record {
+        links_sized = a.sized ∙ are.links_sized;
+        recursive_sized = are.recursive_sized;
+        sound = λ g h x. elim (added old.lists.items lists from to g h a x) [
+          | inl o ↦ are.sound g h o
+          | inr s ↦ rw (s.0, s.1) (record { a = at; b = b; mention = mention; from = ea; to = eb })
+        ];
+        apart = λ g h x e. elim (added old.lists.items lists from to g h a x) [
+          | inl o ↦ are.apart g h o e
+          | inr s ↦ ne (sym s.0 ∙ e ∙ s.1)
+        ];
+        linked = λ d c g h x seen fa fc never. elim (split d x.place seen) [
+          | inl s ↦ kept old.lists.items lists from to g h a (are.linked d c g h x s fa fc never)
+          | inr s ↦ (
+              let y : Mentions m at c = record { list = x.list; place = x.place; has = rw (← s.0) x.has; at = x.at } in
+              let t : c ≡ b = target c y s.1 in
+              let one : g ≡ from = same_item numbers at g from (rw s.0 at fa) ea in
+              let two : h ≡ to = same_item numbers b h to (rw t at fc) eb in
+              rw (one, two) (stands_there old.lists.items lists from to a (let z = are.links_sized in omega arith)))
+        ];
+        loops = are.loops;
+        looped = λ d c g x seen fa fc. elim (split d x.place seen) [
+          | inl s ↦ are.looped d c g x s fa fc
+          | inr s ↦ absurd (
+              let y : Mentions m at c = record { list = x.list; place = x.place; has = rw (← s.0) x.has; at = x.at } in
+              let t : c ≡ b = target c y s.1 in
+              ne (sym (same_item numbers at g from (rw s.0 at fa) ea) ∙ same_item numbers b g to (rw t at fc) eb))
+        ];
+      }
 
   -- all mentions of a declaration are seen
   pub next_links : (at : ℕ) (list : Vec ℕ Global) (lists : List (Vec ℕ Global)) (flags : List Bool) → slice_get m at ≡ Some list → AreLinks m numbers count at (length list.items) lists flags → AreLinks m numbers count (at + 1) 0 lists flags
@@ -159,12 +165,12 @@ module _ (m : List (Vec ℕ Global)) (numbers : List ℕ) (count : ℕ) where
     looped = λ a b g x seen. are.looped a b g x (sooner a b x seen);
   }
     where
-    sooner : (a b : ℕ) (x : Mentions m a b) → IsSeen (at + 1) 0 a x.place → IsSeen at (length list.items) a x.place
-    sooner a b x (inl lt) = elim (same_or_not a at) [
-      | inl e ↦ inr (e, let same : x.list ≡ list = same_item m at x.list list (rw (← e) x.has) has in within list.items x.place b (rw (← same) x.at))
-      | inr ne ↦ inl (let z = ne in omega arith)
-    ]
-    sooner a b x (inr s) = absurd (let z = s.1 in omega arith)
+      sooner : (a b : ℕ) (x : Mentions m a b) → IsSeen (at + 1) 0 a x.place → IsSeen at (length list.items) a x.place
+      sooner a b x (inl lt) = elim (same_or_not a at) [
+        | inl e ↦ inr (e, let same : x.list ≡ list = same_item m at x.list list (rw (← e) x.has) has in within list.items x.place b (rw (← same) x.at))
+        | inr ne ↦ inl (let z = ne in omega arith)
+      ]
+      sooner a b x (inr s) = absurd (let z = s.1 in omega arith)
 
 module _ (m : List (Vec ℕ Global)) (declared : AllDeclared m) (numbers : List ℕ) (count : ℕ) (numbering : IsNumbering (Mentions m) (length m) numbers count) (M : List (Vec ℕ Global)) (are : AreMembers numbers count (length numbers) M) (L : List (Vec ℕ Global)) (R : List Bool) (links : AreLinks m numbers count (length m) 0 L R) where
   number_of : (a : ℕ) → a < length m → (k : ℕ) × (slice_get numbers a ≡ Some k)
@@ -233,31 +239,32 @@ module _ (m : List (Vec ℕ Global)) (declared : AllDeclared m) (numbers : List 
         let f = ordered.ordered.known i g.0 g.1 in
         let e = ordered.ordered.known j h.0 h.1 in
         let first : f.0 < e.0 = ordered.ordered.earliest i g.0 h.0 f.0 e.0 g.1
-          (λ s. let same : s.place ≡ j = same_number s.place j h.0 s.at h.1 in let b = s.before in omega arith)
-          (λ k x. links_before i j k h.0 h.1 x ready)
-          f.1 e.1 in
+        (λ s. let same : s.place ≡ j = same_number s.place j h.0 s.at h.1 in let b = s.before in omega arith)
+        (λ k x. links_before i j k h.0 h.1 x ready)
+        f.1 e.1 in
         record {
           first = f.0;
           member = member i g.0 f.0 g.1 (first_number g.0 f.0 f.1);
           before = λ b x. (let n = numbered j b x in let same : n.0 ≡ h.0 = same_item order j n.0 h.0 n.1 h.1 in let le = least h.0 e.0 b e.1 (rw same at n.2) in omega arith);
         }
       where
-      links_before : (i j k h : ℕ) → slice_get order j ≡ Some h → Mentions L h k → IsReadyAt m groups i j → StandsBefore order i k
-      links_before i j k h is x ready =
-          let l = links.sound h k x in
-          elim (ready.each l.a l.b (member j h l.a is l.from) l.mention) [
-            | inl y ↦ absurd (let n = numbered j l.b y in links.apart h k x (same_item order j h n.0 is n.1 ∙ same_item numbers l.b n.0 k n.2 l.to))
-            | inr y ↦ (let n = numbered y.0 l.b y.2 in let same : n.0 ≡ k = same_item numbers l.b n.0 k n.2 l.to in record { place = y.0; before = y.1; at = rw (← same) n.1 })
-          ]
-      least : (k f b : ℕ) → FirstOf M k f → slice_get numbers b ≡ Some k → f ≤ b
-      least k f b first e =
-          let x = are.member b k (within numbers b k e) e in
-          let same : x.list ≡ first.list = same_item M k x.list first.list x.has first.has in
-          let at : slice_get first.list.items x.place ≡ Some b = rw (← same) x.at in
-          elim (same_or_not x.place 0) [
-            | inl z ↦ (let y : b ≡ f = same_item first.list.items 0 b f (rw z at at) first.at in omega arith)
-            | inr ne ↦ (let y = are.ascending k 0 x.place f b first.list first.has (let z = ne in omega arith) first.at at in omega arith)
-          ]
+        links_before : (i j k h : ℕ) → slice_get order j ≡ Some h → Mentions L h k → IsReadyAt m groups i j → StandsBefore order i k
+        links_before i j k h is x ready =
+            let l = links.sound h k x in
+            elim (ready.each l.a l.b (member j h l.a is l.from) l.mention) [
+              | inl y ↦ absurd (let n = numbered j l.b y in links.apart h k x (same_item order j h n.0 is n.1 ∙ same_item numbers l.b n.0 k n.2 l.to))
+              | inr y ↦ (let n = numbered y.0 l.b y.2 in let same : n.0 ≡ k = same_item numbers l.b n.0 k n.2 l.to in record { place = y.0; before = y.1; at = rw (← same) n.1 })
+            ]
+
+        least : (k f b : ℕ) → FirstOf M k f → slice_get numbers b ≡ Some k → f ≤ b
+        least k f b first e =
+            let x = are.member b k (within numbers b k e) e in
+            let same : x.list ≡ first.list = same_item M k x.list first.list x.has first.has in
+            let at : slice_get first.list.items x.place ≡ Some b = rw (← same) x.at in
+            elim (same_or_not x.place 0) [
+              | inl z ↦ (let y : b ≡ f = same_item first.list.items 0 b f (rw z at at) first.at in omega arith)
+              | inr ne ↦ (let y = are.ascending k 0 x.place f b first.list first.has (let z = ne in omega arith) first.at at in omega arith)
+            ]
 
     pub grouping : IsGrouping m groups
     grouping = record {
@@ -295,24 +302,25 @@ module _ (m : List (Vec ℕ Global)) (declared : AllDeclared m) (numbers : List 
       earliest = earlier;
     }
       where
-      itself : (i k : ℕ) (g : BindingGroup) → slice_get order i ≡ Some k → IsGroupOf M R k g → IsTrue g.recursive → MentionsItself m groups i
-      itself i k g e o t =
-          let set : slice_get R k ≡ Some true = o.flag ∙ is_set g.recursive t in
-          let l = links.loops k set in
-          record { a = l.a; b = l.b; from = member i k l.a e l.from; to = member i k l.b e l.to; mention = l.mention }
-        where
-        is_set : (b : Bool) → IsTrue b → Some b ≡ Some true
-        is_set true t = refl
-        is_set false t = absurd t
-      flagged : (i k : ℕ) (g : BindingGroup) → slice_get order i ≡ Some k → IsGroupOf M R k g → MentionsItself m groups i → IsTrue g.recursive
-      flagged i k g e o x =
-          let n = numbered i x.a x.from in
-          let p = numbered i x.b x.to in
-          let one : n.0 ≡ k = same_item order i n.0 k n.1 e in
-          let two : p.0 ≡ k = same_item order i p.0 k p.1 e in
-          let set = links.looped x.a x.b k x.mention (inl (mention_from x.a x.b x.mention)) (rw one at n.2) (rw two at p.2) in
-          is_true g.recursive (sym o.flag ∙ set)
-        where
-        is_true : (b : Bool) → Some b ≡ Some true → IsTrue b
-        is_true true e = tt
-        is_true false e = absurd cc
+        itself : (i k : ℕ) (g : BindingGroup) → slice_get order i ≡ Some k → IsGroupOf M R k g → IsTrue g.recursive → MentionsItself m groups i
+        itself i k g e o t =
+            let set : slice_get R k ≡ Some true = o.flag ∙ is_set g.recursive t in
+            let l = links.loops k set in
+            record { a = l.a; b = l.b; from = member i k l.a e l.from; to = member i k l.b e l.to; mention = l.mention }
+          where
+            is_set : (b : Bool) → IsTrue b → Some b ≡ Some true
+            is_set true t = refl
+            is_set false t = absurd t
+
+        flagged : (i k : ℕ) (g : BindingGroup) → slice_get order i ≡ Some k → IsGroupOf M R k g → MentionsItself m groups i → IsTrue g.recursive
+        flagged i k g e o x =
+            let n = numbered i x.a x.from in
+            let p = numbered i x.b x.to in
+            let one : n.0 ≡ k = same_item order i n.0 k n.1 e in
+            let two : p.0 ≡ k = same_item order i p.0 k p.1 e in
+            let set = links.looped x.a x.b k x.mention (inl (mention_from x.a x.b x.mention)) (rw one at n.2) (rw two at p.2) in
+            is_true g.recursive (sym o.flag ∙ set)
+          where
+            is_true : (b : Bool) → Some b ≡ Some true → IsTrue b
+            is_true true e = tt
+            is_true false e = absurd cc

@@ -30,10 +30,10 @@ module _ (E : ℕ → ℕ → Type 0) (marks : List Mark) (line : List ℕ) (wai
     | inr le ↦ path.back p q a b le (λ i x g. inl (let r = (below_last i x g).0 in omega arith)) e f
   ]
     where
-    le_or : (m n : ℕ) → (m ≤ n) ⊎ (n ≤ m)
-    le_or zero n = inl (omega arith)
-    le_or (suc m) zero = inr (omega arith)
-    le_or (suc m) (suc n) = elim (le_or m n) [ inl h ↦ inl (omega arith) | inr h ↦ inr (omega arith) ]
+      le_or : (m n : ℕ) → (m ≤ n) ⊎ (n ≤ m)
+      le_or zero n = inl (omega arith)
+      le_or (suc m) zero = inr (omega arith)
+      le_or (suc m) (suc n) = elim (le_or m n) [ inl h ↦ inl (omega arith) | inr h ↦ inr (omega arith) ]
 
   module _ (from at u v : ℕ) (mentions : slice_get line from ≡ Some u) (late : last.open_from ≤ from) (edge : E u v) (mentioned : slice_get line at ≡ Some v) (early : at < last.open_from) where
     apart : parts ≡ [] → ⊥
@@ -129,6 +129,6 @@ module _ (E : ℕ → ℕ → Type 0) (marks : List Mark) (line : List ℕ) (wai
     counted = path.counted;
   }
     where
-    none : (xs : List Part) → xs ++ last ∷ [] ≡ [] → ⊥
-    none [] h = cc
-    none (x ∷ xs) h = cc
+      none : (xs : List Part) → xs ++ last ∷ [] ≡ [] → ⊥
+      none [] h = cc
+      none (x ∷ xs) h = cc

@@ -29,9 +29,9 @@ adds_ready old new first group u = record { here = u.1; others = λ f ne. u.2 f 
 no_entries : (old : BTreeMap ℕ ℕ) → (0 < btree_map_len old → ⊥) → (f : ℕ) → get nat_cmp old f ≡ None
 no_entries old never f = none old.entries never f
   where
-  none : (es : List (ℕ × ℕ)) → (0 < length es → ⊥) → (f : ℕ) → lookup (is_at (nat_cmp f)) es ≡ None
-  none [] never f = refl
-  none (e ∷ es) never f = absurd (never (omega arith))
+    none : (es : List (ℕ × ℕ)) → (0 < length es → ⊥) → (f : ℕ) → lookup (is_at (nat_cmp f)) es ≡ None
+    none [] never f = refl
+    none (e ∷ es) never f = absurd (never (omega arith))
 
 pub takes_ready : (old new : BTreeMap ℕ ℕ) (r : Option (ℕ × ℕ)) → (IsSome r ↔ (0 < btree_map_len old)) → IfSome r (λ p. get nat_cmp old p.0 ≡ Some p.1) → IfSome r (λ p. IsLowerBound nat_cmp old p.0) → IfSome r (λ p. Updates nat_cmp old new p.0 None) → MatchOption r ((f : ℕ) → get nat_cmp old f ≡ None) (λ p. TakesReady old new p.0 p.1)
 takes_ready old new None variant value least updates = no_entries old (λ lt. variant.1 lt)

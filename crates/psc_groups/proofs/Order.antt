@@ -1,5 +1,5 @@
 -- The queue keeps what the order needs.
-use Rattle.std.proofs.Common.{◌≡◌, ◌≢◌, ℕ, ◌+◌, ◌<◌, ◌≤◌, zero, suc, List, [], ◌∷◌, ◌++◌, Bool, true, false, length, length-append, Some, None, Option, MatchOption, slice_get, slice_set, ◌⊎◌, inl, inr, ap, refl, sym, ◌∙◌, arith, length-set}
+use Rattle.std.proofs.Common.{◌≡◌, ◌≢◌, ℕ, ◌+◌, ◌<◌, ◌≤◌, zero, suc, List, [], ◌∷◌, ◌++◌, Bool, true, false, IsTrue, ◌↔◌, length, length-append, Some, None, Option, MatchOption, slice_get, slice_set, ◌⊎◌, inl, inr, ap, refl, sym, ◌∙◌, arith, length-set}
 use Rattle.std.specs.Ordering.{nat_cmp}
 use Rattle.std.specs.BTreeMap.{BTreeMap, get}
 use Rattle.std.specs.declared.vec.Vec.{Vec}
@@ -92,24 +92,24 @@ module _ (L M : List (Vec ℕ Global)) (can : CanOrder L M) where
       | inl p ↦ (
           let same : a ≡ f = first_same M g a f (rw p.1 at fa) first in
           rw same (least h e
-            (λ s. not (record { place = s.place; before = (let lt = within order s.place h s.at in let z = p.0 in omega arith); at = before order (g ∷ []) s.place h s.at }))
-            (λ is. not (record { place = length order; before = (let z = p.0 in omega arith); at = rw is (pushed order g) }))
-            (λ k m. let s = all k m in record { place = s.place; at = earlier s.place k s.at (let lt = s.before in let z = p.0 in omega arith) })
-            fe))
+          (λ s. not (record { place = s.place; before = (let lt = within order s.place h s.at in let z = p.0 in omega arith); at = before order (g ∷ []) s.place h s.at }))
+          (λ is. not (record { place = length order; before = (let z = p.0 in omega arith); at = rw is (pushed order g) }))
+          (λ k m. let s = all k m in record { place = s.place; at = earlier s.place k s.at (let lt = s.before in let z = p.0 in omega arith) })
+          fe))
       | inr p ↦ (
           let lt = within order i x p in
           o.earliest i x h a e p
-            (λ s. not (record { place = s.place; before = s.before; at = before order (g ∷ []) s.place h s.at }))
-            (λ k m. let s = all k m in record { place = s.place; before = s.before; at = earlier s.place k s.at (let z = s.before in omega arith) })
-            fa fe)
+          (λ s. not (record { place = s.place; before = s.before; at = before order (g ∷ []) s.place h s.at }))
+          (λ k m. let s = all k m in record { place = s.place; before = s.before; at = earlier s.place k s.at (let z = s.before in omega arith) })
+          fa fe)
     ];
   }
     where
-    earlier : (p k : ℕ) → slice_get (order ++ g ∷ []) p ≡ Some k → p < length order → slice_get order p ≡ Some k
-    earlier p k e lt = elim (after_push order g p k e) [
-      | inl q ↦ absurd (let z = q.0 in omega arith)
-      | inr q ↦ q
-    ]
+      earlier : (p k : ℕ) → slice_get (order ++ g ∷ []) p ≡ Some k → p < length order → slice_get order p ≡ Some k
+      earlier p k e lt = elim (after_push order g p k e) [
+        | inl q ↦ absurd (let z = q.0 in omega arith)
+        | inr q ↦ q
+      ]
 
   module _ (q : Queue) (queue : IsQueue L M q) where
     -- a group is looked at and waits
@@ -146,11 +146,11 @@ module _ (L M : List (Vec ℕ Global)) (can : CanOrder L M) where
           others = λ x s. still x s;
         }
       where
-      still : (x : ℕ) → Stand L M q x → Stand L M q' x
-      still x (Placed p) = Placed (rw e3 p)
-      still x (Ready f e) = Ready f (rw e4 e)
-      still x (Waits t w m never) = Waits t (kept q.waiters.items q'.waiters.items target g t x adds w) m (λ p. never (rw e3 at p))
-      still x (Empty never) = Empty never
+        still : (x : ℕ) → Stand L M q x → Stand L M q' x
+        still x (Placed p) = Placed (rw e3 p)
+        still x (Ready f e) = Ready f (rw e4 e)
+        still x (Waits t w m never) = Waits t (kept q.waiters.items q'.waiters.items target g t x adds w) m (λ p. never (rw e3 at p))
+        still x (Empty never) = Empty never
 
     -- all that a group mentions is placed
     pub links_placed : (g : ℕ) (list : Vec ℕ Global) (from : ℕ) → slice_get L g ≡ Some list → slice_get q.passed.items g ≡ Some from → AllPlaced q.placed.items list.items from (length list.items) → (h : ℕ) → Mentions L g h → IsPlaced q.placed.items h
@@ -205,20 +205,20 @@ module _ (L M : List (Vec ℕ Global)) (can : CanOrder L M) where
       ordered = rw e5 queue.ordered;
     }
       where
-      some_same : (a b : ℕ) → Some a ≡ Some b → a ≡ b
-      some_same a b e = cc
+        some_same : (a b : ℕ) → Some a ≡ Some b → a ≡ b
+        some_same a b e = cc
 
     pub ready_stand : (q' : Queue) (g f : ℕ) → FirstOf M g f → AddsReady q.ready q'.ready f g → q'.waiters.items ≡ q.waiters.items → q'.placed.items ≡ q.placed.items → AlsoStands L M q q' g
     ready_stand q' g f first adds e2 e3 = record { here = Ready f adds.here; others = still }
       where
-      still : (x : ℕ) → Stand L M q x → Stand L M q' x
-      still x (Placed p) = Placed (rw e3 p)
-      still x (Ready a e) = elim (same_or_not a f) [
-        | inl s ↦ (let is : x ≡ g = can.one x g f (queue.ready_first f x (rw s at e)) first in rw is (Ready f adds.here))
-        | inr ne ↦ Ready a (adds.others a ne ∙ e)
-      ]
-      still x (Waits t w m never) = Waits t (rw e2 w) m (λ p. never (rw e3 at p))
-      still x (Empty never) = Empty never
+        still : (x : ℕ) → Stand L M q x → Stand L M q' x
+        still x (Placed p) = Placed (rw e3 p)
+        still x (Ready a e) = elim (same_or_not a f) [
+          | inl s ↦ (let is : x ≡ g = can.one x g f (queue.ready_first f x (rw s at e)) first in rw is (Ready f adds.here))
+          | inr ne ↦ Ready a (adds.others a ne ∙ e)
+        ]
+        still x (Waits t w m never) = Waits t (rw e2 w) m (λ p. never (rw e3 at p))
+        still x (Empty never) = Empty never
 
     -- a group without members
     pub empty_stand : (q' : Queue) (g : ℕ) → ((f : ℕ) → FirstOf M g f → ⊥) → q' ≡ q → AlsoStands L M q q' g
@@ -257,14 +257,14 @@ module _ (L M : List (Vec ℕ Global)) (can : CanOrder L M) where
       others = λ x lt ne. still x ne (stand.stand x lt);
     }
       where
-      still : (x : ℕ) → (x ≡ g → ⊥) → Stand L M q x → Stand L M q' x
-      still x ne (Placed p) = Placed (rw e3 p)
-      still x ne (Ready a e) = elim (same_or_not a f) [
-        | inl s ↦ absurd (ne (let z : Some x ≡ Some g = sym (rw s at e) ∙ takes.was in cc))
-        | inr never ↦ Ready a (takes.others a never ∙ e)
-      ]
-      still x ne (Waits t w m never) = Waits t (rw e2 w) m (λ p. never (rw e3 at p))
-      still x ne (Empty never) = Empty never
+        still : (x : ℕ) → (x ≡ g → ⊥) → Stand L M q x → Stand L M q' x
+        still x ne (Placed p) = Placed (rw e3 p)
+        still x ne (Ready a e) = elim (same_or_not a f) [
+          | inl s ↦ absurd (ne (let z : Some x ≡ Some g = sym (rw s at e) ∙ takes.was in cc))
+          | inr never ↦ Ready a (takes.others a never ∙ e)
+        ]
+        still x ne (Waits t w m never) = Waits t (rw e2 w) m (λ p. never (rw e3 at p))
+        still x ne (Empty never) = Empty never
 
     pub next_within : (g : ℕ) → IsNext L M q g → g < length L
     next_within g next = first_within g next.first next.is_first
@@ -300,17 +300,17 @@ module _ (L M : List (Vec ℕ Global)) (can : CanOrder L M) where
       least : (h e : ℕ) → (StandsIn q.order.items h → ⊥) → (h ≡ g → ⊥) → ((k : ℕ) → Mentions L h k → StandsIn q.order.items k) → FirstOf M h e → next.first < e
       least h e not ne all fe = from (next.others h (first_within h e fe) ne)
         where
-        from : Stand L M q h → next.first < e
-        from (Placed p) = absurd (not (queue.marked h p))
-        from (Ready a is) =
-            let same : a ≡ e = first_same M h a e (queue.ready_first a h is) fe in
-            let le = next.least a h is in
-            elim (same_or_not next.first e) [
-              | inl s ↦ absurd (ne (can.one h g e fe (rw s at next.is_first)))
-              | inr never ↦ omega arith
-            ]
-        from (Waits t w m never) = absurd (let s = all t m in never (queue.placed s.place t s.at))
-        from (Empty never) = absurd (never e fe)
+          from : Stand L M q h → next.first < e
+          from (Placed p) = absurd (not (queue.marked h p))
+          from (Ready a is) =
+              let same : a ≡ e = first_same M h a e (queue.ready_first a h is) fe in
+              let le = next.least a h is in
+              elim (same_or_not next.first e) [
+                | inl s ↦ absurd (ne (can.one h g e fe (rw s at next.is_first)))
+                | inr never ↦ omega arith
+              ]
+          from (Waits t w m never) = absurd (let s = all t m in never (queue.placed s.place t s.at))
+          from (Empty never) = absurd (never e fe)
 
       pub place_queue : IsQueue L M q'
       place_queue = record {
@@ -330,10 +330,10 @@ module _ (L M : List (Vec ℕ Global)) (can : CanOrder L M) where
           | inr s ↦ stays x (queue.placed i x s)
         ];
         ordered = rw e5 (ordered_push q.order.items g next.first queue.ordered
-          (λ s. un (queue.placed s.place g s.at))
-          next.is_first
-          (λ h m. queue.marked h (next.linked h m))
-          least);
+            (λ s. un (queue.placed s.place g s.at))
+            next.is_first
+            (λ h m. queue.marked h (next.linked h m))
+            least);
       }
 
       pub place_stand : AllStandBut L M q' woken.items 0
@@ -345,16 +345,16 @@ module _ (L M : List (Vec ℕ Global)) (can : CanOrder L M) where
         within = λ p x e. queue.waiting g x (record { list = woken; place = p; has = takes.was; at = e });
       }
         where
-        still : (x : ℕ) → Stand L M q x → Stand L M q' x ⊎ StandsFrom woken.items 0 x
-        still x (Placed p) = inl (Placed (stays x p))
-        still x (Ready a e) = inl (Ready a (rw e4 e))
-        still x (Waits t w m never) = elim (same_or_not t g) [
-          | inl e ↦ (
-              let same : w.list ≡ woken = same_item q.waiters.items g w.list woken (rw e at w.has) takes.was in
-              inr (record { place = w.place; behind = omega arith; at = rw (← same) w.at }))
-          | inr ne ↦ inl (Waits t (record { list = w.list; place = w.place; has = takes.others t ne ∙ w.has; at = w.at }) m (λ p. elim (in_order t p) [ inl s ↦ ne s | inr s ↦ never s ]))
-        ]
-        still x (Empty never) = inl (Empty never)
+          still : (x : ℕ) → Stand L M q x → Stand L M q' x ⊎ StandsFrom woken.items 0 x
+          still x (Placed p) = inl (Placed (stays x p))
+          still x (Ready a e) = inl (Ready a (rw e4 e))
+          still x (Waits t w m never) = elim (same_or_not t g) [
+            | inl e ↦ (
+                let same : w.list ≡ woken = same_item q.waiters.items g w.list woken (rw e at w.has) takes.was in
+                inr (record { place = w.place; behind = omega arith; at = rw (← same) w.at }))
+            | inr ne ↦ inl (Waits t (record { list = w.list; place = w.place; has = takes.others t ne ∙ w.has; at = w.at }) m (λ p. elim (in_order t p) [ inl s ↦ ne s | inr s ↦ never s ]))
+          ]
+          still x (Empty never) = inl (Empty never)
 
   -- a woken group is looked at
   pub looked_at : (q q' : Queue) (woken : List ℕ) (at x : ℕ) → AllStandBut L M q woken at → slice_get woken at ≡ Some x → AlsoStands L M q q' x → AllStandBut L M q' woken (at + 1)
@@ -370,17 +370,21 @@ module _ (L M : List (Vec ℕ Global)) (can : CanOrder L M) where
   }
 
   pub all_stand : (q : Queue) (woken : List ℕ) → AllStandBut L M q woken (length woken) → StandBelow L M q (length L)
-  all_stand q woken all = record { stand = λ g lt. elim (all.stand g lt) [
-    | inl s ↦ s
-    | inr s ↦ absurd (let w = within woken s.place g s.at in let b = s.behind in omega arith)
-  ] }
+  all_stand q woken all = record {
+    stand = λ g lt. elim (all.stand g lt) [
+      | inl s ↦ s
+      | inr s ↦ absurd (let w = within woken s.place g s.at in let b = s.behind in omega arith)
+    ];
+  }
 
   -- one group more stands
   pub stand_more : (q q' : Queue) (at : ℕ) → StandBelow L M q at → AlsoStands L M q q' at → StandBelow L M q' (at + 1)
-  stand_more q q' at below also = record { stand = λ g lt. elim (same_or_not g at) [
-    | inl e ↦ rw e also.here
-    | inr ne ↦ also.others g (below.stand g (let z = ne in omega arith))
-  ] }
+  stand_more q q' at below also = record {
+    stand = λ g lt. elim (same_or_not g at) [
+      | inl e ↦ rw e also.here
+      | inr ne ↦ also.others g (below.stand g (let z = ne in omega arith))
+    ];
+  }
 
   pub stand_none : (q : Queue) → StandBelow L M q 0
   stand_none q = record { stand = λ g lt. absurd (omega arith) }
@@ -389,47 +393,56 @@ module _ (L M : List (Vec ℕ Global)) (can : CanOrder L M) where
   pub finished : (q : Queue) → IsQueue L M q → StandBelow L M q (length L) → ((f : ℕ) → get nat_cmp q.ready f ≡ None) → IsOrder L M q.order.items
   finished q queue below none = record { ordered = queue.ordered; all = λ g f first. queue.marked g (placed (g + 1) g f (omega arith) first) }
     where
-    from : (n : ℕ) → ((g f : ℕ) → g < n → FirstOf M g f → IsPlaced q.placed.items g) → (g f : ℕ) → g < suc n → FirstOf M g f → Stand L M q g → IsPlaced q.placed.items g
-    from n lower g f lt first (Placed p) = p
-    from n lower g f lt first (Ready a e) = absurd (let z : None ≡ Some g = sym (none a) ∙ e in cc)
-    from n lower g f lt first (Waits t w m never) = absurd (let k = can.known g t m in let less = can.falls g t m in never (lower t k.0 (omega arith) k.1))
-    from n lower g f lt first (Empty never) = absurd (never f first)
-    placed : (n g f : ℕ) → g < n → FirstOf M g f → IsPlaced q.placed.items g
-    placed zero g f lt first = absurd (omega arith)
-    placed (suc n) g f lt first = from n (placed n) g f lt first (below.stand g (first_within g f first))
+      from : (n : ℕ) → ((g f : ℕ) → g < n → FirstOf M g f → IsPlaced q.placed.items g) → (g f : ℕ) → g < suc n → FirstOf M g f → Stand L M q g → IsPlaced q.placed.items g
+      from n lower g f lt first (Placed p) = p
+      from n lower g f lt first (Ready a e) = absurd (let z : None ≡ Some g = sym (none a) ∙ e in cc)
+      from n lower g f lt first (Waits t w m never) = absurd (let k = can.known g t m in let less = can.falls g t m in never (lower t k.0 (omega arith) k.1))
+      from n lower g f lt first (Empty never) = absurd (never f first)
+
+      placed : (n g f : ℕ) → g < n → FirstOf M g f → IsPlaced q.placed.items g
+      placed zero g f lt first = absurd (omega arith)
+      placed (suc n) g f lt first = from n (placed n) g f lt first (below.stand g (first_within g f first))
 
 -- a queue in which nothing was done
 pub started : (L M : List (Vec ℕ Global)) (q : Queue) → length q.passed.items ≡ length L → length q.waiters.items ≡ length L → length q.placed.items ≡ length L → ((g n : ℕ) → slice_get q.passed.items g ≡ Some n → n ≡ 0) → ((t g : ℕ) → Mentions q.waiters.items t g → ⊥) → ((g : ℕ) → IsPlaced q.placed.items g → ⊥) → ((f : ℕ) → get nat_cmp q.ready f ≡ None) → q.order.items ≡ [] → IsQueue L M q
 started L M q s1 s2 s3 zeros none new empty start = record {
-    passed_sized = s1;
-    waiters_sized = s2;
-    placed_sized = s3;
-    passed = λ g n p h list e lt has at. absurd (let z = zeros g n e in omega arith);
-    ready_first = λ f g e. absurd (let z : None ≡ Some g = sym (empty f) ∙ e in cc);
-    ready_links = λ f g h e m. absurd (let z : None ≡ Some g = sym (empty f) ∙ e in cc);
-    waiting = λ t g m. absurd (none t g m);
-    marked = λ g p. absurd (new g p);
-    placed = λ i g e. absurd (let z : slice_get {X = ℕ} [] i ≡ Some g = rw start at e in cc);
-    ordered = rw start (record {
-      once = λ i j g e f. absurd cc;
-      known = λ i g e. absurd cc;
-      ready = λ i g h e m. absurd cc;
-      earliest = λ i g h f e at never all a b. absurd cc;
-    });
-  }
+  passed_sized = s1;
+  waiters_sized = s2;
+  placed_sized = s3;
+  passed = λ g n p h list e lt has at. absurd (let z = zeros g n e in omega arith);
+  ready_first = λ f g e. absurd (let z : None ≡ Some g = sym (empty f) ∙ e in cc);
+  ready_links = λ f g h e m. absurd (let z : None ≡ Some g = sym (empty f) ∙ e in cc);
+  waiting = λ t g m. absurd (none t g m);
+  marked = λ g p. absurd (new g p);
+  placed = λ i g e. absurd (let z : slice_get {X = ℕ} [] i ≡ Some g = rw start at e in cc);
+  ordered = rw start (record {
+    once = λ i j g e f. absurd cc;
+    known = λ i g e. absurd cc;
+    ready = λ i g h e m. absurd cc;
+    earliest = λ i g h f e at never all a b. absurd cc;
+  });
+}
 
 -- the loop over what a group mentions
 pub all_none : (placed : List Bool) (mentioned : List ℕ) (from : ℕ) → AllPlaced placed mentioned from from
 all_none placed mentioned from = record { each = λ p h le lt e. absurd (omega arith) }
 
 pub all_more : (placed : List Bool) (mentioned : List ℕ) (from place target : ℕ) → AllPlaced placed mentioned from place → slice_get mentioned place ≡ Some target → IsPlaced placed target → AllPlaced placed mentioned from (place + 1)
-all_more placed mentioned from place target all at is = record { each = λ p h le lt e. elim (same_or_not p place) [
-  | inl s ↦ (let same : h ≡ target = same_item mentioned place h target (rw s at e) at in rw same is)
-  | inr ne ↦ all.each p h le (let z = ne in omega arith) e
-] }
+all_more placed mentioned from place target all at is = record {
+  each = λ p h le lt e. elim (same_or_not p place) [
+    | inl s ↦ (let same : h ≡ target = same_item mentioned place h target (rw s at e) at in rw same is)
+    | inr ne ↦ all.each p h le (let z = ne in omega arith) e
+  ];
+}
 
 pub found_unplaced : (placed : List Bool) (mentioned : List ℕ) (from place target : ℕ) → AllPlaced placed mentioned from place → slice_get mentioned place ≡ Some target → (IsPlaced placed target → ⊥) → IsUnplaced placed mentioned from place
 found_unplaced placed mentioned from place target all at never = record { target = target; at = at; unplaced = never; before = λ p h le lt e. all.each p h le lt e }
 
 pub all_less : (placed : List Bool) (mentioned : List ℕ) (from to place : ℕ) → to ≤ place → AllPlaced placed mentioned from place → AllPlaced placed mentioned from to
 all_less placed mentioned from to place le all = record { each = λ p h low lt e. all.each p h low (omega arith) e }
+
+pub when_true : (b : Bool) (P : Type 0) → IsTrue b ↔ P → b ≡ true → P
+when_true b P both e = both.0 (rw e tt)
+
+pub when_false : (b : Bool) (P : Type 0) → IsTrue b ↔ P → b ≡ false → P → ⊥
+when_false b P both e p = let t : IsTrue false = rw e at (both.1 p) in absurd t

@@ -22,9 +22,9 @@ from_pop old new (Some x) h = Last x h
 pub front_of : {A : Type 0} → (old new front : List A) (x : A) → old ≡ front ++ x ∷ [] → MatchLast old new → new ≡ front
 front_of old new front x e (NoLast h) = absurd (none x front (sym e ∙ h))
   where
-  none : {A : Type 0} → (z : A) (ys : List A) → ys ++ z ∷ [] ≡ [] → ⊥
-  none z [] h = cc
-  none z (y ∷ ys) h = cc
+    none : {A : Type 0} → (z : A) (ys : List A) → ys ++ z ∷ [] ≡ [] → ⊥
+    none z [] h = cc
+    none z (y ∷ ys) h = cc
 front_of old new front x e (Last y h) = (same_last new front y x (sym h ∙ e)).0
 
 pub all_new_none : (xs : List Mark) → xs ≡ [] → AllNew xs
@@ -49,9 +49,9 @@ marks_more old now new line from at number d m le here lt e = rw e (record {
   new_ones = λ p v lp hp g room. elim (eqb_tells v d) [
     | inl h ↦ (let r = some_at now d lt in rw h.1 (written now d (Done number) r.0 r.1))
     | inr h ↦ unwritten now d (Done number) v (Done number) h.1 (m.new_ones p v lp (elim (eqb_tells p at) [
-        | inl k ↦ absurd (h.1 (same_item line at v d (rw k.1 at g) here))
-        | inr k ↦ (let ne = k.1 in omega arith)
-      ]) g room)
+      | inl k ↦ absurd (h.1 (same_item line at v d (rw k.1 at g) here))
+      | inr k ↦ (let ne = k.1 in omega arith)
+    ]) g room)
   ];
   others = λ v x g. elim (after_write now d (Done number) v x g) [
     | inl h ↦ inl (at, le, rw h.0 here, h.1)
@@ -74,31 +74,31 @@ marks_skip old now line from at number d m le here past = record {
 pub start_walks : (m : List (Vec ℕ Global)) (w : Walk) → AllNew w.marks.items → length w.marks.items ≡ length m → w.line.items ≡ [] → w.waiting.items ≡ [] → w.parts.items ≡ [] → Walks m w
 start_walks m w new size l t p = record { path = rw (l, t, p) (start w.marks.items w.done new); sized = size }
   where
-  start : (marks : List Mark) (done : ℕ) → AllNew marks → IsPath (Mentions m) marks [] [] [] done
-  start marks done n = record {
-    marked = λ p v e. absurd cc;
-    placed = λ v p e. absurd (let w : Open p ≡ New = n.each v (Open p) e in cc);
-    forward = λ p q a b le e f. absurd cc;
-    back = λ p q a b le t e f. absurd cc;
-    rising = λ i j x y le e f. absurd cc;
-    inside = λ i x e. absurd cc;
-    first = λ x e. absurd cc;
-    grounded = λ e. (refl, refl);
-    known = λ t w e. absurd cc;
-    above = λ t i w x e f le. absurd cc;
-    below = λ t i w x e f le. absurd cc;
-    followed = λ i p u v x f le e edge. absurd cc;
-    settled = λ u v k e edge. absurd (let w : Done k ≡ New = n.each u (Done k) e in cc);
-    one = λ u v k e f. absurd (let w : Done k ≡ New = n.each u (Done k) e in cc);
-    counted = λ u k e. absurd (let w : Done k ≡ New = n.each u (Done k) e in cc);
-  }
+    start : (marks : List Mark) (done : ℕ) → AllNew marks → IsPath (Mentions m) marks [] [] [] done
+    start marks done n = record {
+      marked = λ p v e. absurd cc;
+      placed = λ v p e. absurd (let w : Open p ≡ New = n.each v (Open p) e in cc);
+      forward = λ p q a b le e f. absurd cc;
+      back = λ p q a b le t e f. absurd cc;
+      rising = λ i j x y le e f. absurd cc;
+      inside = λ i x e. absurd cc;
+      first = λ x e. absurd cc;
+      grounded = λ e. (refl, refl);
+      known = λ t w e. absurd cc;
+      above = λ t i w x e f le. absurd cc;
+      below = λ t i w x e f le. absurd cc;
+      followed = λ i p u v x f le e edge. absurd cc;
+      settled = λ u v k e edge. absurd (let w : Done k ≡ New = n.each u (Done k) e in cc);
+      one = λ u v k e f. absurd (let w : Done k ≡ New = n.each u (Done k) e in cc);
+      counted = λ u k e. absurd (let w : Done k ≡ New = n.each u (Done k) e in cc);
+    }
 
 -- a declaration enters
 pub enter_walks : (m : List (Vec ℕ Global)) (old new : Walk) (d : ℕ) (bs : Vec ℕ Global) → Walks m old → slice_get old.marks.items d ≡ Some New → ((p u : ℕ) → slice_get old.line.items p ≡ Some u → Reaches (Mentions m) u d) → slice_get m d ≡ Some bs → new.marks.items ≡ slice_set old.marks.items d (Open (length old.line.items)) → new.line.items ≡ old.line.items ++ d ∷ [] → new.waiting.items ≡ old.waiting.items ++ map (awaiting (length old.line.items)) bs.items → new.parts.items ≡ old.parts.items ++ part_at (length old.line.items) (length old.waiting.items) ∷ [] → new.done ≡ old.done → Walks m new
 enter_walks m old new d bs w is leads has e1 e2 e3 e4 e5 = record {
   path = rw (e1, e2, e3, e4, e5) (entered (Mentions m) old.marks.items old.line.items old.waiting.items old.parts.items old.done d bs.items w.path is leads
-    (λ b j e. record { list = bs; place = j; has = has; at = e })
-    (λ b x. (x.place, let s : x.list ≡ bs = same_item m d x.list bs x.has has in rw (← s) x.at)));
+      (λ b j e. record { list = bs; place = j; has = has; at = e })
+      (λ b x. (x.place, let s : x.list ≡ bs = same_item m d x.list bs x.has has in rw (← s) x.at)));
   sized = ap length e1 ∙ length-set old.marks.items d (Open (length old.line.items)) ∙ w.sized;
 }
 
@@ -117,8 +117,8 @@ close_walks m old new part w ends le c =
     let parts : new.parts.items ≡ ends.front = front_of old.parts.items new.parts.items ends.front part ends.is c.parts in
     record {
       path = rw (c.line, c.waiting, parts, c.done) (closed (Mentions m) old.marks.items new.marks.items old.line.items old.waiting.items ends.front part old.done path le
-        (λ p v lp e. c.marks.new_ones p v lp (within old.line.items p v e) e (within old.marks.items v (Open p) (w.path.marked p v e)))
-        c.marks.others c.marks.stays);
+          (λ p v lp e. c.marks.new_ones p v lp (within old.line.items p v e) e (within old.marks.items v (Open p) (w.path.marked p v e)))
+          c.marks.others c.marks.stays);
       sized = c.marks.sized ∙ w.sized;
     }
 
@@ -179,7 +179,6 @@ module _ (m : List (Vec ℕ Global)) (old : Walk) (part : Part) (mention : Waiti
 
   pub pass_open : (new : Walk) (q : ℕ) → slice_get old.marks.items mention.to ≡ Some (Open q) → part.open_from ≤ q → Passes old new → Walks m new
   pass_open new q e le p = pass_walks new (inr (q, e, le)) p
-
 
 pub ends_as : {A : Type 0} → (xs ys : List A) (x : A) → xs ≡ ys → EndsWith xs x → EndsWith ys x
 ends_as xs ys x e h = record { front = h.front; is = sym e ∙ h.is }

@@ -57,7 +57,12 @@ pub(crate) struct Links {
     pub recursive: Vec<bool>,
 }
 
-fn links_of(alloc: Global, mentions: &[Vec<u32>], numbers: &[usize], count: usize) -> Result<Links, NoMemory>
+fn links_of(
+    alloc: Global,
+    mentions: &[Vec<u32>],
+    numbers: &[usize],
+    count: usize,
+) -> Result<Links, NoMemory>
     requires declared { AllDeclared mentions.now }
     requires sized { length numbers.now ≡ length mentions.now }
     requires counted { (a k : ℕ) → slice_get numbers.now a ≡ Some k → k < count }
@@ -75,7 +80,13 @@ fn links_of(alloc: Global, mentions: &[Vec<u32>], numbers: &[usize], count: usiz
 
 impl Links {
     /// Notes what a declaration mentions.
-    fn add_all(&mut self, mentions: &[Vec<u32>], numbers: &[usize], count: usize, declaration: usize) -> Result<(), NoMemory>
+    fn add_all(
+        &mut self,
+        mentions: &[Vec<u32>],
+        numbers: &[usize],
+        count: usize,
+        declaration: usize,
+    ) -> Result<(), NoMemory>
         requires declared { AllDeclared mentions.now }
         requires sized { length numbers.now ≡ length mentions.now }
         requires counted { (a k : ℕ) → slice_get numbers.now a ≡ Some k → k < count }
@@ -136,7 +147,12 @@ fn u32_of(number: usize) -> Result<u32, NoMemory>
     }
 }
 
-fn in_order(alloc: Global, members: &[Vec<u32>], recursive: &[bool], order: &[usize]) -> Result<Vec<BindingGroup>, NoMemory>
+fn in_order(
+    alloc: Global,
+    members: &[Vec<u32>],
+    recursive: &[bool],
+    order: &[usize],
+) -> Result<Vec<BindingGroup>, NoMemory>
     requires members_within { (i k : ℕ) → slice_get order.now i ≡ Some k → k < length members.now }
     requires flags_within { (i k : ℕ) → slice_get order.now i ≡ Some k → k < length recursive.now }
     ensures { IfOk result (λ groups. AreGroups members.now recursive.now order.now (length order.now) groups.items) }
@@ -149,7 +165,12 @@ fn in_order(alloc: Global, members: &[Vec<u32>], recursive: &[bool], order: &[us
 }
 
 /// The group of a number.
-fn group_of(alloc: Global, members: &[Vec<u32>], recursive: &[bool], number: usize) -> Result<BindingGroup, NoMemory>
+fn group_of(
+    alloc: Global,
+    members: &[Vec<u32>],
+    recursive: &[bool],
+    number: usize,
+) -> Result<BindingGroup, NoMemory>
     requires members_within { number < length members.now }
     requires flags_within { number < length recursive.now }
     ensures { IfOk result (IsGroupOf members.now recursive.now number) }

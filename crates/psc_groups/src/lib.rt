@@ -8,10 +8,9 @@
 mod declared;
 mod groups;
 mod order;
-mod walk;
-
 #[cfg(test)]
 mod tests;
+mod walk;
 
 pub use declared::are_declared;
 pub use groups::{BindingGroup, binding_groups};

@@ -49,7 +49,12 @@ impl Queue {
     }
 
     /// Finds out whether a group is ready, and else on what it waits.
-    fn look_at(&mut self, members: &[Vec<u32>], links: &[Vec<usize>], group: usize) -> Result<(), NoMemory>
+    fn look_at(
+        &mut self,
+        members: &[Vec<u32>],
+        links: &[Vec<usize>],
+        group: usize,
+    ) -> Result<(), NoMemory>
         requires can { CanOrder links.now members.now }
         requires queue { IsQueue links.now members.now self.old }
         requires within { group < length links.now }
@@ -84,7 +89,13 @@ impl Queue {
     }
 
     /// Places a group, unless it is placed, and looks again at those that waited on it.
-    fn place(&mut self, alloc: Global, members: &[Vec<u32>], links: &[Vec<usize>], group: usize) -> Result<(), NoMemory>
+    fn place(
+        &mut self,
+        alloc: Global,
+        members: &[Vec<u32>],
+        links: &[Vec<usize>],
+        group: usize,
+    ) -> Result<(), NoMemory>
         requires can { CanOrder links.now members.now }
         requires queue { IsQueue links.now members.now self.old }
         requires next { IsNext links.now members.now self.old group }
@@ -92,7 +103,7 @@ impl Queue {
         ensures queue { OnOk result (IsQueue links.now members.now self.new) }
         ensures stand { OnOk result (StandBelow links.now members.now self.new (length links.now)) }
     {
-        if self.placed[group] {
+        if is_placed(&self.placed, group) {
             return Ok(());
         }
         self.order.push(group)?;
@@ -121,11 +132,19 @@ fn first_unplaced(placed: &[bool], mentioned: &[usize], from: usize) -> Option<u
     ensures { MatchOption result (AllPlaced placed.now mentioned.now from (length mentioned.now)) (λ place. IsUnplaced placed.now mentioned.now from place) }
 {
     for place in from..mentioned.len() {
-        if !placed[mentioned[place]] {
+        let target = mentioned[place];
+        if !is_placed(placed, target) {
             return Some(place);
         }
     }
     None
+}
+
+fn is_placed(placed: &[bool], group: usize) -> bool
+    requires { group < length placed.now }
+    ensures { IsTrue result ↔ IsPlaced placed.now group }
+{
+    placed[group]
 }
 
 fn first_member(members: &[Vec<u32>], group: usize) -> Option<u32>
@@ -165,7 +184,11 @@ fn take_ready(ready: &mut BTreeMap<u32, usize>) -> Option<(u32, usize)>
 }
 
 /// The numbers of the groups in their order.
-pub(crate) fn order_of(alloc: Global, members: &[Vec<u32>], links: &[Vec<usize>]) -> Result<Vec<usize>, NoMemory>
+pub(crate) fn order_of(
+    alloc: Global,
+    members: &[Vec<u32>],
+    links: &[Vec<usize>],
+) -> Result<Vec<usize>, NoMemory>
     requires { CanOrder links.now members.now }
     ensures { IfOk result (λ order. IsOrder links.now members.now order.items) }
 {

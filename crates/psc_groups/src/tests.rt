@@ -31,10 +31,22 @@ fn groups_of_mutual_recursion(rt: HostRuntime) -> Result<(), Fail> {
     assert_eq!(rt; shown(&rt, &[&[]])?.as_str(), "(0)");
     assert_eq!(rt; shown(&rt, &[&[0]])?.as_str(), "[0]");
     assert_eq!(rt; shown(&rt, &[&[1], &[0]])?.as_str(), "[0 1]");
-    assert_eq!(rt; shown(&rt, &[&[1], &[2], &[0], &[0]])?.as_str(), "[0 1 2](3)");
-    assert_eq!(rt; shown(&rt, &[&[1, 3], &[2], &[1], &[4], &[3]])?.as_str(), "[1 2][3 4](0)");
-    assert_eq!(rt; shown(&rt, &[&[2], &[0], &[3], &[1]])?.as_str(), "[0 1 2 3]");
-    assert_eq!(rt; shown(&rt, &[&[1], &[1, 1], &[0, 2]])?.as_str(), "[1](0)[2]");
+    assert_eq!(rt;
+        shown(&rt, &[&[1], &[2], &[0], &[0]])?.as_str(),
+        "[0 1 2](3)"
+    );
+    assert_eq!(rt;
+        shown(&rt, &[&[1, 3], &[2], &[1], &[4], &[3]])?.as_str(),
+        "[1 2][3 4](0)"
+    );
+    assert_eq!(rt;
+        shown(&rt, &[&[2], &[0], &[3], &[1]])?.as_str(),
+        "[0 1 2 3]"
+    );
+    assert_eq!(rt;
+        shown(&rt, &[&[1], &[1, 1], &[0, 2]])?.as_str(),
+        "[1](0)[2]"
+    );
     Ok(())
 }
 
@@ -42,9 +54,21 @@ fn groups_of_mutual_recursion(rt: HostRuntime) -> Result<(), Fail> {
 fn the_earliest_ready_group_comes_first(rt: HostRuntime) -> Result<(), Fail> {
     assert_eq!(rt; shown(&rt, &[&[], &[], &[]])?.as_str(), "(0)(1)(2)");
     assert_eq!(rt; shown(&rt, &[&[2], &[], &[]])?.as_str(), "(1)(2)(0)");
-    assert_eq!(rt; shown(&rt, &[&[1], &[3], &[], &[]])?.as_str(), "(2)(3)(1)(0)");
-    assert_eq!(rt; shown(&rt, &[&[3, 4], &[], &[3], &[], &[]])?.as_str(), "(1)(3)(2)(4)(0)");
-    assert_eq!(rt; shown(&rt, &[&[4], &[4], &[1, 0], &[2, 2], &[]])?.as_str(), "(4)(0)(1)(2)(3)");
-    assert_eq!(rt; shown(&rt, &[&[5, 1], &[4], &[3], &[2], &[], &[4]])?.as_str(), "[2 3](4)(1)(5)(0)");
+    assert_eq!(rt;
+        shown(&rt, &[&[1], &[3], &[], &[]])?.as_str(),
+        "(2)(3)(1)(0)"
+    );
+    assert_eq!(rt;
+        shown(&rt, &[&[3, 4], &[], &[3], &[], &[]])?.as_str(),
+        "(1)(3)(2)(4)(0)"
+    );
+    assert_eq!(rt;
+        shown(&rt, &[&[4], &[4], &[1, 0], &[2, 2], &[]])?.as_str(),
+        "(4)(0)(1)(2)(3)"
+    );
+    assert_eq!(rt;
+        shown(&rt, &[&[5, 1], &[4], &[3], &[2], &[], &[4]])?.as_str(),
+        "[2 3](4)(1)(5)(0)"
+    );
     Ok(())
 }
