@@ -4,7 +4,8 @@
 //! `typeop ~> infixr 4 T`. It declares the name and exports it. A further word `of N` at the end says that module N declares it.
 
 use psc_externs::{
-    Assoc, ClassRow, ConstructorRow, Entity, ExportRow, ExternType, Externs, FixityRow, Name, OpSpace, TrueName,
+    Assoc, ClassRow, ConstructorRow, Entity, ExportRow, ExternType, Externs, FixityRow, Name,
+    OpSpace, TrueName,
 };
 use psc_items::SharedItems;
 use psc_text::{ModuleName, NoMemory, OpName, Qualified, Text, read_module_name};
@@ -30,7 +31,10 @@ pub(crate) struct Interfaces {
 
 impl Interfaces {
     pub(crate) fn new(alloc: Global) -> Interfaces {
-        Interfaces { alloc, list: Vec::new(alloc) }
+        Interfaces {
+            alloc,
+            list: Vec::new(alloc),
+        }
     }
 
     /// Takes a line. A line that is not of the form is left out.
@@ -39,7 +43,8 @@ impl Interfaces {
         for word in line.split_whitespace() {
             words.push(word)?;
         }
-        let (Some(module), Some(kind), Some(name)) = (words.get(0), words.get(1), words.get(2)) else {
+        let (Some(module), Some(kind), Some(name)) = (words.get(0), words.get(1), words.get(2))
+        else {
             return Ok(());
         };
         let Some(module) = read_module_name(self.alloc, module)? else {
@@ -101,7 +106,13 @@ fn name_of(alloc: Global, word: &str) -> Result<Option<Name>, NoMemory> {
 }
 
 impl Interface {
-    fn declare(&mut self, alloc: Global, kind: &str, name: &str, words: &[&str]) -> Result<(), NoMemory> {
+    fn declare(
+        &mut self,
+        alloc: Global,
+        kind: &str,
+        name: &str,
+        words: &[&str],
+    ) -> Result<(), NoMemory> {
         match kind {
             "class" => self.class(alloc, name),
             "ctor" => match words.get(3) {
@@ -128,17 +139,31 @@ impl Interface {
     }
 
     fn constructor(&mut self, alloc: Global, name: &str, parent: &str) -> Result<(), NoMemory> {
-        let made = Qualified { module: Some(self.module.clone()?), name: Text::new(alloc, parent)? };
+        let made = Qualified {
+            module: Some(self.module.clone()?),
+            name: Text::new(alloc, parent)?,
+        };
         let x_type = ExternType::new(Ty::Con(made));
         let (name, parent) = (name_of(alloc, name)?, name_of(alloc, parent)?);
         if let (Some(name), Some(parent), Some(x_type)) = (name, parent, x_type) {
-            self.constructors.push(ConstructorRow { name, parent, x_type })?;
+            self.constructors.push(ConstructorRow {
+                name,
+                parent,
+                x_type,
+            })?;
         }
         Ok(())
     }
 
-    fn fixity(&mut self, alloc: Global, space: OpSpace, op: &str, words: &[&str]) -> Result<(), NoMemory> {
-        let (Some(side), Some(power), Some(target)) = (words.get(3), words.get(4), words.get(5)) else {
+    fn fixity(
+        &mut self,
+        alloc: Global,
+        space: OpSpace,
+        op: &str,
+        words: &[&str],
+    ) -> Result<(), NoMemory> {
+        let (Some(side), Some(power), Some(target)) = (words.get(3), words.get(4), words.get(5))
+        else {
             return Ok(());
         };
         let assoc = match *side {
@@ -156,13 +181,22 @@ impl Interface {
                 op: OpName(Text::new(alloc, op)?),
                 precedence,
                 space,
-                target: TrueName { module: self.module.clone()?, name },
+                target: TrueName {
+                    module: self.module.clone()?,
+                    name,
+                },
             })?;
         }
         Ok(())
     }
 
-    fn export(&mut self, alloc: Global, kind: &str, name: &str, module: ModuleName) -> Result<(), NoMemory> {
+    fn export(
+        &mut self,
+        alloc: Global,
+        kind: &str,
+        name: &str,
+        module: ModuleName,
+    ) -> Result<(), NoMemory> {
         let entity = match kind {
             "value" => name_of(alloc, name)?.map(Entity::Value),
             "type" | "class" => name_of(alloc, name)?.map(Entity::XType),
@@ -177,7 +211,13 @@ impl Interface {
     }
 
     fn into_externs(self, alloc: Global) -> Result<Externs, NoMemory> {
-        let Interface { module, classes, constructors, exports, fixities } = self;
+        let Interface {
+            module,
+            classes,
+            constructors,
+            exports,
+            fixities,
+        } = self;
         Ok(Externs {
             classes: SharedItems::from_vec(alloc, classes)?,
             constructors: SharedItems::from_vec(alloc, constructors)?,

@@ -94,7 +94,11 @@ fn export_text(alloc: Global, row: &ExportRow, line: u32, column: u32) -> Result
 }
 
 fn bracketed_text(alloc: Global, resolved: Resolved) -> Result<String, NoMemory> {
-    let Resolved { module, fixities, .. } = resolved;
+    let Resolved {
+        module,
+        fixities,
+        ..
+    } = resolved;
     match rebracket(alloc, module, &fixities)? {
         Ok(module) => module_text(alloc, &module, false),
         Err(error) => error_text(alloc, &error),
@@ -150,13 +154,24 @@ impl Rows {
     fn end(&mut self, alloc: Global, want: &str, look: Look) -> Result<(), NoMemory> {
         self.count = self.count.saturating_add(1);
         let got = self.outcome(alloc, look)?;
-        if got.as_str() == want { Ok(()) } else { self.differ(got.as_str(), want) }
+        if got.as_str() == want {
+            Ok(())
+        } else {
+            self.differ(got.as_str(), want)
+        }
     }
 
     /// Notes what a row gave where it should have given something else.
     fn differ(&mut self, got: &str, want: &str) -> Result<(), NoMemory> {
         self.differing = self.differing.saturating_add(1);
-        for part in [self.name.as_str(), "\n  got  ", got, "\n  want ", want, "\n"] {
+        for part in [
+            self.name.as_str(),
+            "\n  got  ",
+            got,
+            "\n  want ",
+            want,
+            "\n",
+        ] {
             self.report.push_str(part)?;
         }
         Ok(())
@@ -196,7 +211,12 @@ fn read_rows(alloc: Global, text: &str) -> Result<String, NoMemory> {
     for line in text.lines() {
         rows.take(alloc, line)?;
     }
-    let Rows { count, differing, report, .. } = rows;
+    let Rows {
+        count,
+        differing,
+        report,
+        ..
+    } = rows;
     Ok(format!(in alloc; "{}{} rows, {} differ", report, count, differing)?)
 }
 

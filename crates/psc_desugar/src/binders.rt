@@ -19,19 +19,40 @@ fn bind(state: &mut Desugar, names: &mut Names, name: &Text, span: Span) -> Resu
 
 /// A binder in plain forms. Wrong with OverlappingNamesInLet at a name that stands in the list already.
 #[cycle(binders)]
-pub(crate) fn binder(state: &mut Desugar, tree: &BinderTree, names: &mut Names) -> Result<PlainBinder, Stop> {
+pub(crate) fn binder(
+    state: &mut Desugar,
+    tree: &BinderTree,
+    names: &mut Names,
+) -> Result<PlainBinder, Stop> {
     match tree {
-        BinderTree::Operation { .. } | BinderTree::Constructor { .. } => constructor(state, tree, names),
+        BinderTree::Operation { .. } | BinderTree::Constructor { .. } => constructor(
+            state, tree, names,
+        ),
         BinderTree::Variable { name } => {
             bind(state, names, &name.name.0, name.span)?;
-            Ok(PlainBinder::Variable { name: name.name.clone()?, span: name.span })
+            Ok(PlainBinder::Variable {
+                name: name.name.clone()?,
+                span: name.span,
+            })
         }
-        BinderTree::Named { names: own, inner, span } => named(state, own.as_slice(), inner, *span, names),
+        BinderTree::Named {
+            names: own,
+            inner,
+            span,
+        } => named(state, own.as_slice(), inner, *span, names),
         BinderTree::Paren { inner, .. } => binder(state, inner.get(), names),
-        BinderTree::Typed { inner, x_type, span } => {
+        BinderTree::Typed {
+            inner,
+            x_type,
+            span,
+        } => {
             let inner = boxed(state, inner, names)?;
             let x_type = Boxed::new(state.alloc, typ(state, x_type.get())?)?;
-            Ok(PlainBinder::Typed { inner, x_type, span: *span })
+            Ok(PlainBinder::Typed {
+                inner,
+                x_type,
+                span: *span,
+            })
         }
         BinderTree::Array { items, span } => {
             let items = binders(state, items.as_slice(), names)?;
@@ -39,27 +60,50 @@ pub(crate) fn binder(state: &mut Desugar, tree: &BinderTree, names: &mut Names) 
         }
         BinderTree::XRecord { fields, span } => {
             let fields = field_list(state, fields.as_slice(), names)?;
-            Ok(PlainBinder::XRecord { fields, span: *span })
+            Ok(PlainBinder::XRecord {
+                fields,
+                span: *span,
+            })
         }
         BinderTree::Wild { span } => Ok(PlainBinder::Wild { span: *span }),
-        BinderTree::Integer { value, span } => Ok(PlainBinder::Integer { value: *value, span: *span }),
-        BinderTree::Str { value, span } => Ok(PlainBinder::Str { value: value.clone()?, span: *span }),
-        BinderTree::Character { value, span } => Ok(PlainBinder::Character { value: *value, span: *span }),
-        BinderTree::Boolean { value, span } => Ok(PlainBinder::Boolean { value: *value, span: *span }),
+        BinderTree::Integer { value, span } => Ok(PlainBinder::Integer {
+            value: *value,
+            span: *span,
+        }),
+        BinderTree::Str { value, span } => Ok(PlainBinder::Str {
+            value: value.clone()?,
+            span: *span,
+        }),
+        BinderTree::Character { value, span } => Ok(PlainBinder::Character {
+            value: *value,
+            span: *span,
+        }),
+        BinderTree::Boolean { value, span } => Ok(PlainBinder::Boolean {
+            value: *value,
+            span: *span,
+        }),
         // Bracketing left no chain.
         BinderTree::Chain { first, .. } => binder(state, first.get(), names),
     }
 }
 
 #[cycle(binders)]
-fn boxed(state: &mut Desugar, tree: &Boxed<BinderTree>, names: &mut Names) -> Result<Boxed<PlainBinder>, Stop> {
+fn boxed(
+    state: &mut Desugar,
+    tree: &Boxed<BinderTree>,
+    names: &mut Names,
+) -> Result<Boxed<PlainBinder>, Stop> {
     let tree = binder(state, tree.get(), names)?;
     Ok(Boxed::new(state.alloc, tree)?)
 }
 
 /// Binders of one list.
 #[cycle(binders)]
-pub(crate) fn binders(state: &mut Desugar, trees: &[BinderTree], names: &mut Names) -> Result<Items<PlainBinder>, Stop> {
+pub(crate) fn binders(
+    state: &mut Desugar,
+    trees: &[BinderTree],
+    names: &mut Names,
+) -> Result<Items<PlainBinder>, Stop> {
     let mut list = Items::new(state.alloc);
     for tree in trees {
         list.push(binder(state, tree, names)?)?;
@@ -69,17 +113,40 @@ pub(crate) fn binders(state: &mut Desugar, trees: &[BinderTree], names: &mut Nam
 
 /// A constructor with its arguments; an operator is one with two.
 #[cycle(binders)]
-fn constructor(state: &mut Desugar, tree: &BinderTree, names: &mut Names) -> Result<PlainBinder, Stop> {
+fn constructor(
+    state: &mut Desugar,
+    tree: &BinderTree,
+    names: &mut Names,
+) -> Result<PlainBinder, Stop> {
     match tree {
-        BinderTree::Constructor { name, arguments, span } => {
+        BinderTree::Constructor {
+            name,
+            arguments,
+            span,
+        } => {
             let arguments = binders(state, arguments.as_slice(), names)?;
-            Ok(PlainBinder::Constructor { name: name.name.clone()?, name_span: name.span, arguments, span: *span })
+            Ok(PlainBinder::Constructor {
+                name: name.name.clone()?,
+                name_span: name.span,
+                arguments,
+                span: *span,
+            })
         }
-        BinderTree::Operation { op, left, right, span } => {
+        BinderTree::Operation {
+            op,
+            left,
+            right,
+            span,
+        } => {
             let mut arguments = Items::new(state.alloc);
             arguments.push(binder(state, left.get(), names)?)?;
             arguments.push(binder(state, right.get(), names)?)?;
-            Ok(PlainBinder::Constructor { name: op.name.clone()?, name_span: op.span, arguments, span: *span })
+            Ok(PlainBinder::Constructor {
+                name: op.name.clone()?,
+                name_span: op.span,
+                arguments,
+                span: *span,
+            })
         }
         _ => Ok(PlainBinder::Wild { span: tree.span() }),
     }
@@ -110,7 +177,11 @@ fn named(
 }
 
 #[cycle(binders)]
-fn field_list(state: &mut Desugar, fields: &[BinderField], names: &mut Names) -> Result<Items<PlainBinderField>, Stop> {
+fn field_list(
+    state: &mut Desugar,
+    fields: &[BinderField],
+    names: &mut Names,
+) -> Result<Items<PlainBinderField>, Stop> {
     let mut list = Items::new(state.alloc);
     for field in fields {
         let label = field.label.label.clone()?;
@@ -119,10 +190,17 @@ fn field_list(state: &mut Desugar, fields: &[BinderField], names: &mut Names) ->
             Some(value) => binder(state, value.get(), names)?,
             None => {
                 bind(state, names, &field.label.label.0, label_span)?;
-                PlainBinder::Variable { name: Ident(field.label.label.0.clone()?), span: label_span }
+                PlainBinder::Variable {
+                    name: Ident(field.label.label.0.clone()?),
+                    span: label_span,
+                }
             }
         };
-        list.push(PlainBinderField { label, label_span, value })?;
+        list.push(PlainBinderField {
+            label,
+            label_span,
+            value,
+        })?;
     }
     Ok(list)
 }

@@ -28,12 +28,22 @@ pub(crate) enum Layer {
     /// Bindings that see one another, in their groups.
     Groups(Items<PlainBindGroup>),
     /// A binder that is no variable, with its right side.
-    Match { binder: PlainBinder, value: PlainExpr, span: Span },
+    Match {
+        binder: PlainBinder,
+        value: PlainExpr,
+        span: Span,
+    },
 }
 
 /// A body in the bindings of a `let`. All names of the bindings are counted in one list.
 #[cycle(exprs)]
-pub(crate) fn let_in(state: &mut Desugar, binds: &[Bind], body: &ExprTree, names: &mut Names, place: Place) -> Result<PlainExpr, Stop> {
+pub(crate) fn let_in(
+    state: &mut Desugar,
+    binds: &[Bind],
+    body: &ExprTree,
+    names: &mut Names,
+    place: Place,
+) -> Result<PlainExpr, Stop> {
     let mut layers = Vec::new(state.alloc);
     if place.of_where {
         // The names of a `where` are bound in the body that stands before them.
@@ -51,13 +61,26 @@ pub(crate) fn let_in(state: &mut Desugar, binds: &[Bind], body: &ExprTree, names
 
 /// The layers of bindings, whose names stay bound.
 #[cycle(exprs)]
-pub(crate) fn add_layers(state: &mut Desugar, binds: &[Bind], names: &mut Names, layers: &mut Vec<Layer>) -> Result<(), Stop> {
+pub(crate) fn add_layers(
+    state: &mut Desugar,
+    binds: &[Bind],
+    names: &mut Names,
+    layers: &mut Vec<Layer>,
+) -> Result<(), Stop> {
     for (place, bind) in binds.iter().enumerate() {
         match bind {
-            Bind::Value { binder: bound, rhs, span } => {
+            Bind::Value {
+                binder: bound,
+                rhs,
+                span,
+            } => {
                 let value = rhs_value(state, rhs, *span)?;
                 let binder = binder(state, bound, names)?;
-                layers.push(Layer::Match { binder, value, span: *span })?;
+                layers.push(Layer::Match {
+                    binder,
+                    value,
+                    span: *span,
+                })?;
             }
             Bind::Sig(_) | Bind::Clause(_) => {
                 if begins_segment(binds, place) {
@@ -80,14 +103,22 @@ fn begins_segment(binds: &[Bind], place: usize) -> bool {
 
 /// How many bindings stand before the first one by a binder.
 fn segment_len(binds: &[Bind]) -> usize {
-    match binds.iter().position(|bind| matches!(bind, Bind::Value { .. })) {
+    match binds
+        .iter()
+        .position(|bind| matches!(bind, Bind::Value { .. }))
+    {
         Some(len) => len,
         None => binds.len(),
     }
 }
 
 /// Puts layers round a body, the last one first.
-pub(crate) fn wrap(alloc: Global, layers: Vec<Layer>, body: PlainExpr, place: Place) -> Result<PlainExpr, NoMemory> {
+pub(crate) fn wrap(
+    alloc: Global,
+    layers: Vec<Layer>,
+    body: PlainExpr,
+    place: Place,
+) -> Result<PlainExpr, NoMemory> {
     let mut layers = layers;
     let mut whole = body;
     for _ in 0..layers.len() {
@@ -98,7 +129,12 @@ pub(crate) fn wrap(alloc: Global, layers: Vec<Layer>, body: PlainExpr, place: Pl
     Ok(whole)
 }
 
-fn wrap_one(alloc: Global, layer: Layer, body: PlainExpr, place: Place) -> Result<PlainExpr, NoMemory> {
+fn wrap_one(
+    alloc: Global,
+    layer: Layer,
+    body: PlainExpr,
+    place: Place,
+) -> Result<PlainExpr, NoMemory> {
     match layer {
         Layer::Groups(groups) => Ok(PlainExpr::Let {
             groups,
@@ -106,7 +142,11 @@ fn wrap_one(alloc: Global, layer: Layer, body: PlainExpr, place: Place) -> Resul
             of_where: place.of_where,
             span: place.span,
         }),
-        Layer::Match { binder, value, span } => {
+        Layer::Match {
+            binder,
+            value,
+            span,
+        } => {
             let alt = alternative(alloc, binder, body, span)?;
             case_of_one(alloc, value, alt, place.span)
         }
@@ -136,15 +176,27 @@ fn rhs_value(state: &mut Desugar, rhs: &Rhs, span: Span) -> Result<PlainExpr, St
         Rhs::Guarded(_) => {
             let rhs = right_side(state, rhs)?;
             let mut alternatives = Items::new(state.alloc);
-            alternatives.push(PlainAlt { binders: Items::new(state.alloc), rhs, span })?;
-            Ok(PlainExpr::Case { scrutinees: Items::new(state.alloc), alternatives, span })
+            alternatives.push(PlainAlt {
+                binders: Items::new(state.alloc),
+                rhs,
+                span,
+            })?;
+            Ok(PlainExpr::Case {
+                scrutinees: Items::new(state.alloc),
+                alternatives,
+                span,
+            })
         }
     }
 }
 
 /// Bindings that see one another, in their groups.
 #[cycle(exprs)]
-fn segment_of(state: &mut Desugar, binds: &[Bind], names: &mut Names) -> Result<Items<PlainBindGroup>, Stop> {
+fn segment_of(
+    state: &mut Desugar,
+    binds: &[Bind],
+    names: &mut Names,
+) -> Result<Items<PlainBindGroup>, Stop> {
     let runs = runs_of_binds(state.alloc, binds)?;
     let frame = state.scope.open()?;
     for run in &runs {
@@ -163,7 +215,12 @@ fn segment_of(state: &mut Desugar, binds: &[Bind], names: &mut Names) -> Result<
 
 /// The binding that successive clauses make, with the signature before them.
 #[cycle(exprs)]
-fn bind_of(state: &mut Desugar, binds: &[Bind], run: Run, names: &mut Names) -> Result<PlainBind, Stop> {
+fn bind_of(
+    state: &mut Desugar,
+    binds: &[Bind],
+    run: Run,
+    names: &mut Names,
+) -> Result<PlainBind, Stop> {
     let Some(Bind::Clause(first)) = binds.get(run.from) else {
         return Err(Stop::NoMemory);
     };
@@ -179,7 +236,11 @@ fn bind_of(state: &mut Desugar, binds: &[Bind], run: Run, names: &mut Names) -> 
     })
 }
 
-fn signature_before(state: &Desugar, binds: &[Bind], place: usize) -> Result<Option<PlainSignature>, NoMemory> {
+fn signature_before(
+    state: &Desugar,
+    binds: &[Bind],
+    place: usize,
+) -> Result<Option<PlainSignature>, NoMemory> {
     let Some(before) = place.checked_sub(1) else {
         return Ok(None);
     };
@@ -270,13 +331,22 @@ impl Cases {
     }
 
     fn into_value(self, state: &Desugar) -> Result<PlainExpr, NoMemory> {
-        let Cases { first, numbers, last, alternatives } = self;
+        let Cases {
+            first,
+            numbers,
+            last,
+            alternatives,
+        } = self;
         let span = match first {
             Some(first) => first.to(last),
             None => last,
         };
         let scrutinees = made_all(state, &numbers, span)?;
-        let whole = PlainExpr::Case { scrutinees, alternatives, span };
+        let whole = PlainExpr::Case {
+            scrutinees,
+            alternatives,
+            span,
+        };
         made_lambdas(state, &numbers, whole, span)
     }
 }
@@ -302,5 +372,9 @@ fn clause_alt(state: &mut Desugar, clause: &Clause) -> Result<PlainAlt, Stop> {
     let binders = binders(state, clause.arguments.as_slice(), &mut names)?;
     let rhs = right_side(state, &clause.rhs)?;
     state.scope.leave(mark);
-    Ok(PlainAlt { binders, rhs, span: clause.span })
+    Ok(PlainAlt {
+        binders,
+        rhs,
+        span: clause.span,
+    })
 }

@@ -6,10 +6,12 @@ use crate::runs::{end_of_run, runs_of_members};
 use crate::state::Desugar;
 use crate::stop::Stop;
 use crate::types::{constraints, head_vars, kind, signature, typ, typs};
-use psc_ast::{ClassDecl, Clause, DataDecl, Decl, Dep, IdentAt, InstanceDecl, SynonymDecl, TypeVar};
+use psc_ast::{
+    ClassDecl, Clause, DataDecl, Decl, Dep, IdentAt, InstanceDecl, SynonymDecl, TypeVar,
+};
 use psc_plain::{
-    PlainClass, PlainCtor, PlainData, PlainDep, PlainForeign, PlainInstance, PlainMember, PlainSynonym, PlainTypeDecl,
-    PlainValue,
+    PlainClass, PlainCtor, PlainData, PlainDep, PlainForeign, PlainInstance, PlainMember,
+    PlainSynonym, PlainTypeDecl, PlainValue,
 };
 use psc_text::{Ident, NoMemory, Text};
 use psc_type::Kind;
@@ -46,7 +48,9 @@ pub(crate) fn all_decls(state: &mut Desugar, decls: &[Decl]) -> Result<Declared,
             }
             Decl::Instance(instance) => {
                 if let Some(name) = names.next() {
-                    declared.instances.push(instance_of(state, instance, name)?)?;
+                    declared
+                        .instances
+                        .push(instance_of(state, instance, name)?)?;
                 }
             }
             Decl::ForeignValue { sig, span } => declared.foreigns.push(PlainForeign {
@@ -68,7 +72,12 @@ fn before(decls: &[Decl], place: usize) -> Option<&Decl> {
 }
 
 /// The value that the clauses from a place on make.
-fn value_of(state: &mut Desugar, decls: &[Decl], place: usize, end: usize) -> Result<PlainValue, Stop> {
+fn value_of(
+    state: &mut Desugar,
+    decls: &[Decl],
+    place: usize,
+    end: usize,
+) -> Result<PlainValue, Stop> {
     let Some(Decl::Clause(first)) = decls.get(place) else {
         return Err(Stop::NoMemory);
     };
@@ -97,14 +106,23 @@ fn stated_kind(state: &Desugar, decls: &[Decl], place: usize) -> Result<Option<K
     }
 }
 
-fn type_of(state: &mut Desugar, decls: &[Decl], place: usize, decl: &Decl) -> Result<PlainTypeDecl, Stop> {
+fn type_of(
+    state: &mut Desugar,
+    decls: &[Decl],
+    place: usize,
+    decl: &Decl,
+) -> Result<PlainTypeDecl, Stop> {
     let stated = stated_kind(state, decls, place)?;
     match decl {
         Decl::XData(data) => Ok(PlainTypeDecl::XData(data_of(state, data, false, stated)?)),
         Decl::Newtype(data) => Ok(PlainTypeDecl::XData(data_of(state, data, true, stated)?)),
         Decl::Synonym(synonym) => Ok(PlainTypeDecl::Synonym(synonym_of(state, synonym, stated)?)),
         Decl::Class(class) => Ok(PlainTypeDecl::Class(class_of(state, class, stated)?)),
-        Decl::ForeignData { name, kind: written, span } => Ok(PlainTypeDecl::Foreign {
+        Decl::ForeignData {
+            name,
+            kind: written,
+            span,
+        } => Ok(PlainTypeDecl::Foreign {
             name: name.name.clone()?,
             name_span: name.span,
             kind: kind(state.alloc, written)?,
@@ -114,7 +132,12 @@ fn type_of(state: &mut Desugar, decls: &[Decl], place: usize, decl: &Decl) -> Re
     }
 }
 
-fn data_of(state: &mut Desugar, data: &DataDecl, is_newtype: bool, stated: Option<Kind>) -> Result<PlainData, Stop> {
+fn data_of(
+    state: &mut Desugar,
+    data: &DataDecl,
+    is_newtype: bool,
+    stated: Option<Kind>,
+) -> Result<PlainData, Stop> {
     let vars = head_vars(state, data.vars.as_slice())?;
     let mut ctors = Items::new(state.alloc);
     for ctor in data.ctors.as_slice() {
@@ -136,7 +159,11 @@ fn data_of(state: &mut Desugar, data: &DataDecl, is_newtype: bool, stated: Optio
     })
 }
 
-fn synonym_of(state: &mut Desugar, synonym: &SynonymDecl, stated: Option<Kind>) -> Result<PlainSynonym, Stop> {
+fn synonym_of(
+    state: &mut Desugar,
+    synonym: &SynonymDecl,
+    stated: Option<Kind>,
+) -> Result<PlainSynonym, Stop> {
     Ok(PlainSynonym {
         name: synonym.name.name.clone()?,
         name_span: synonym.name.span,
@@ -147,7 +174,11 @@ fn synonym_of(state: &mut Desugar, synonym: &SynonymDecl, stated: Option<Kind>) 
     })
 }
 
-fn class_of(state: &mut Desugar, class: &ClassDecl, stated: Option<Kind>) -> Result<PlainClass, Stop> {
+fn class_of(
+    state: &mut Desugar,
+    class: &ClassDecl,
+    stated: Option<Kind>,
+) -> Result<PlainClass, Stop> {
     let supers = constraints(state, class.supers.as_slice())?;
     let vars = head_vars(state, class.vars.as_slice())?;
     let places = var_places(state, class.vars.as_slice())?;
@@ -194,7 +225,11 @@ fn dep_of(state: &Desugar, places: &BTreeMap<Text, u32>, dep: &Dep) -> Result<Pl
     })
 }
 
-fn places_of(state: &Desugar, places: &BTreeMap<Text, u32>, names: &[IdentAt]) -> Result<Items<u32>, NoMemory> {
+fn places_of(
+    state: &Desugar,
+    places: &BTreeMap<Text, u32>,
+    names: &[IdentAt],
+) -> Result<Items<u32>, NoMemory> {
     let mut list = Items::new(state.alloc);
     for name in names {
         if let Some(place) = places.get(&name.name.0) {
@@ -204,7 +239,11 @@ fn places_of(state: &Desugar, places: &BTreeMap<Text, u32>, names: &[IdentAt]) -
     Ok(list)
 }
 
-fn instance_of(state: &mut Desugar, instance: &InstanceDecl, name: Ident) -> Result<PlainInstance, Stop> {
+fn instance_of(
+    state: &mut Desugar,
+    instance: &InstanceDecl,
+    name: Ident,
+) -> Result<PlainInstance, Stop> {
     let context = constraints(state, instance.context.as_slice())?;
     let head = typs(state, instance.arguments.as_slice())?;
     let members = instance.members.as_slice();

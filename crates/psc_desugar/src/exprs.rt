@@ -1,14 +1,15 @@
 //! Expressions in plain forms.
 
 use crate::binders::{binder, binders};
-use crate::build::{all_variables, alternative, application, lambda, made, made_all, made_lambdas, operation, value};
 use crate::binds::{Place, let_in};
-use crate::statements::{ado, do_block};
+use crate::build::{
+    all_variables, alternative, application, lambda, made, made_all, made_lambdas, operation, value,
+};
 use crate::state::{Desugar, Names, local};
+use crate::statements::{ado, do_block};
 use crate::stop::Stop;
 use crate::types::typ;
 use psc_ast::{Alt, BinderTree, Branch, ExprTree, Field, Guard, Rhs, Test, TickStep, Update};
-
 use psc_plain::{PlainAlt, PlainBinder, PlainExpr, PlainField, PlainGuard, PlainRhs, PlainTest};
 use psc_text::{Ident, NoMemory, Span};
 use sqlite_items::{Boxed, Items};
@@ -17,12 +18,15 @@ use sqlite_items::{Boxed, Items};
 #[cycle(exprs)]
 pub(crate) fn expr(state: &mut Desugar, tree: &ExprTree) -> Result<PlainExpr, Stop> {
     match tree {
-        ExprTree::Operation { .. } | ExprTree::Ticks { .. } | ExprTree::Call { .. } => applied(state, tree),
+        ExprTree::Operation { .. } | ExprTree::Ticks { .. } | ExprTree::Call { .. } => applied(
+            state, tree,
+        ),
         ExprTree::Lambda { .. } | ExprTree::If { .. } | ExprTree::Case { .. } => form(state, tree),
         ExprTree::Let { .. } | ExprTree::Do { .. } | ExprTree::Ado { .. } => block(state, tree),
-        ExprTree::Access { .. } | ExprTree::Update { .. } | ExprTree::Paren { .. } | ExprTree::Typed { .. } => {
-            part(state, tree)
-        }
+        ExprTree::Access { .. }
+        | ExprTree::Update { .. }
+        | ExprTree::Paren { .. }
+        | ExprTree::Typed { .. } => { part(state, tree) }
         ExprTree::Array { .. } | ExprTree::XRecord { .. } => brackets(state, tree),
         _ => atom(state, tree),
     }
@@ -41,14 +45,32 @@ fn atom(state: &mut Desugar, tree: &ExprTree) -> Result<PlainExpr, Stop> {
             if name.name.module.is_none() {
                 state.scope.mention(&name.name.name)?;
             }
-            Ok(PlainExpr::Variable { name: name.name.clone()?, span: name.span })
+            Ok(PlainExpr::Variable {
+                name: name.name.clone()?,
+                span: name.span,
+            })
         }
-        ExprTree::Constructor { name } => Ok(PlainExpr::Constructor { name: name.name.clone()?, span: name.span }),
+        ExprTree::Constructor { name } => Ok(PlainExpr::Constructor {
+            name: name.name.clone()?,
+            span: name.span,
+        }),
         ExprTree::Operator { name, .. } => Ok(value(name)?),
-        ExprTree::Integer { value, span } => Ok(PlainExpr::Integer { value: *value, span: *span }),
-        ExprTree::Str { value, span } => Ok(PlainExpr::Str { value: value.clone()?, span: *span }),
-        ExprTree::Character { value, span } => Ok(PlainExpr::Character { value: *value, span: *span }),
-        ExprTree::Boolean { value, span } => Ok(PlainExpr::Boolean { value: *value, span: *span }),
+        ExprTree::Integer { value, span } => Ok(PlainExpr::Integer {
+            value: *value,
+            span: *span,
+        }),
+        ExprTree::Str { value, span } => Ok(PlainExpr::Str {
+            value: value.clone()?,
+            span: *span,
+        }),
+        ExprTree::Character { value, span } => Ok(PlainExpr::Character {
+            value: *value,
+            span: *span,
+        }),
+        ExprTree::Boolean { value, span } => Ok(PlainExpr::Boolean {
+            value: *value,
+            span: *span,
+        }),
         _ => {
             let number = state.hole();
             Ok(made(state, number, tree.span())?)
@@ -59,7 +81,12 @@ fn atom(state: &mut Desugar, tree: &ExprTree) -> Result<PlainExpr, Stop> {
 #[cycle(exprs)]
 fn applied(state: &mut Desugar, tree: &ExprTree) -> Result<PlainExpr, Stop> {
     match tree {
-        ExprTree::Operation { op, left, right, span } => {
+        ExprTree::Operation {
+            op,
+            left,
+            right,
+            span,
+        } => {
             let left = expr(state, left.get())?;
             let right = expr(state, right.get())?;
             Ok(operation(state.alloc, op, left, right, *span)?)
@@ -68,7 +95,11 @@ fn applied(state: &mut Desugar, tree: &ExprTree) -> Result<PlainExpr, Stop> {
             let first = expr(state, first.get())?;
             ticks(state, first, rest.as_slice())
         }
-        ExprTree::Call { function, arguments, .. } => {
+        ExprTree::Call {
+            function,
+            arguments,
+            ..
+        } => {
             let function = expr(state, function.get())?;
             call(state, function, arguments.as_slice())
         }
@@ -92,7 +123,11 @@ fn ticks(state: &mut Desugar, first: PlainExpr, steps: &[TickStep]) -> Result<Pl
 }
 
 #[cycle(exprs)]
-fn call(state: &mut Desugar, function: PlainExpr, arguments: &[ExprTree]) -> Result<PlainExpr, Stop> {
+fn call(
+    state: &mut Desugar,
+    function: PlainExpr,
+    arguments: &[ExprTree],
+) -> Result<PlainExpr, Stop> {
     let mut whole = function;
     for argument in arguments {
         let span = whole.span().to(argument.span());
@@ -105,26 +140,51 @@ fn call(state: &mut Desugar, function: PlainExpr, arguments: &[ExprTree]) -> Res
 #[cycle(exprs)]
 fn form(state: &mut Desugar, tree: &ExprTree) -> Result<PlainExpr, Stop> {
     match tree {
-        ExprTree::Lambda { binders: list, body, span } => {
+        ExprTree::Lambda {
+            binders: list,
+            body,
+            span,
+        } => {
             let mark = state.scope.mark();
             let whole = function(state, list.as_slice(), body, *span)?;
             state.scope.leave(mark);
             Ok(whole)
         }
-        ExprTree::If { test, then, otherwise, span } => {
+        ExprTree::If {
+            test,
+            then,
+            otherwise,
+            span,
+        } => {
             let at = test.get().span();
             let test = expr(state, test.get())?;
             let then = expr(state, then.get())?;
             let otherwise = expr(state, otherwise.get())?;
             let mut alternatives = Items::new(state.alloc);
-            let holds = PlainBinder::Boolean { value: true, span: at };
+            let holds = PlainBinder::Boolean {
+                value: true,
+                span: at,
+            };
             alternatives.push(alternative(state.alloc, holds, then, *span)?)?;
-            alternatives.push(alternative(state.alloc, PlainBinder::Wild { span: at }, otherwise, *span)?)?;
+            alternatives.push(alternative(
+                state.alloc,
+                PlainBinder::Wild { span: at },
+                otherwise,
+                *span,
+            )?)?;
             let mut scrutinees = Items::new(state.alloc);
             scrutinees.push(test)?;
-            Ok(PlainExpr::Case { scrutinees, alternatives, span: *span })
+            Ok(PlainExpr::Case {
+                scrutinees,
+                alternatives,
+                span: *span,
+            })
         }
-        ExprTree::Case { scrutinees, alternatives: list, span } => {
+        ExprTree::Case {
+            scrutinees,
+            alternatives: list,
+            span,
+        } => {
             let numbers = state.numbers(holes_of(scrutinees.as_slice()))?;
             state.open_holes(&numbers)?;
             let mut plain = Items::new(state.alloc);
@@ -132,7 +192,11 @@ fn form(state: &mut Desugar, tree: &ExprTree) -> Result<PlainExpr, Stop> {
                 plain.push(expr(state, scrutinee)?)?;
             }
             let alternatives = alternatives(state, list.as_slice())?;
-            let whole = PlainExpr::Case { scrutinees: plain, alternatives, span: *span };
+            let whole = PlainExpr::Case {
+                scrutinees: plain,
+                alternatives,
+                span: *span,
+            };
             Ok(made_lambdas(state, &numbers, whole, *span)?)
         }
         _ => atom(state, tree),
@@ -141,12 +205,20 @@ fn form(state: &mut Desugar, tree: &ExprTree) -> Result<PlainExpr, Stop> {
 
 /// How many scrutinees are `_`.
 fn holes_of(scrutinees: &[ExprTree]) -> usize {
-    scrutinees.iter().filter(|one| matches!(one, ExprTree::Hole { .. })).count()
+    scrutinees
+        .iter()
+        .filter(|one| matches!(one, ExprTree::Hole { .. }))
+        .count()
 }
 
 /// A function of binders. Variables keep their names; other binders are a case of made names.
 #[cycle(exprs)]
-fn function(state: &mut Desugar, list: &[BinderTree], body: &Boxed<ExprTree>, span: Span) -> Result<PlainExpr, Stop> {
+fn function(
+    state: &mut Desugar,
+    list: &[BinderTree],
+    body: &Boxed<ExprTree>,
+    span: Span,
+) -> Result<PlainExpr, Stop> {
     if all_variables(list) {
         enter_variables(state, list)?;
         let body = expr(state, body.get())?;
@@ -157,9 +229,17 @@ fn function(state: &mut Desugar, list: &[BinderTree], body: &Boxed<ExprTree>, sp
     let plain = binders(state, list, &mut names)?;
     let body = boxed(state, body)?;
     let mut alternatives = Items::new(state.alloc);
-    alternatives.push(PlainAlt { binders: plain, rhs: PlainRhs::Body(body), span })?;
+    alternatives.push(PlainAlt {
+        binders: plain,
+        rhs: PlainRhs::Body(body),
+        span,
+    })?;
     let scrutinees = made_all(state, &numbers, span)?;
-    let whole = PlainExpr::Case { scrutinees, alternatives, span };
+    let whole = PlainExpr::Case {
+        scrutinees,
+        alternatives,
+        span,
+    };
     Ok(made_lambdas(state, &numbers, whole, span)?)
 }
 
@@ -176,7 +256,12 @@ pub(crate) fn enter_variables(state: &mut Desugar, list: &[BinderTree]) -> Resul
 }
 
 /// Functions of written names round an expression.
-pub(crate) fn named_lambdas(state: &Desugar, list: &[BinderTree], body: PlainExpr, span: Span) -> Result<PlainExpr, NoMemory> {
+pub(crate) fn named_lambdas(
+    state: &Desugar,
+    list: &[BinderTree],
+    body: PlainExpr,
+    span: Span,
+) -> Result<PlainExpr, NoMemory> {
     let mut whole = body;
     for tree in list.iter().rev() {
         if let BinderTree::Variable { name } = tree {
@@ -195,7 +280,11 @@ fn alternatives(state: &mut Desugar, list: &[Alt]) -> Result<Items<PlainAlt>, St
         let binders = binders(state, alt.binders.as_slice(), &mut names)?;
         let rhs = right_side(state, &alt.rhs)?;
         state.scope.leave(mark);
-        plain.push(PlainAlt { binders, rhs, span: alt.span })?;
+        plain.push(PlainAlt {
+            binders,
+            rhs,
+            span: alt.span,
+        })?;
     }
     Ok(plain)
 }
@@ -226,18 +315,30 @@ fn guard_of(state: &mut Desugar, guard: &Guard) -> Result<PlainGuard, Stop> {
     }
     let body = branch_of(state, &guard.branch)?;
     state.scope.leave(mark);
-    Ok(PlainGuard { tests, body: Boxed::new(state.alloc, body)?, span: guard.span })
+    Ok(PlainGuard {
+        tests,
+        body: Boxed::new(state.alloc, body)?,
+        span: guard.span,
+    })
 }
 
 #[cycle(exprs)]
 fn test_of(state: &mut Desugar, test: &Test) -> Result<PlainTest, Stop> {
     match test {
         Test::Holds { value } => Ok(PlainTest::Holds(expr(state, value)?)),
-        Test::Binds { binder: bound, value, span } => {
+        Test::Binds {
+            binder: bound,
+            value,
+            span,
+        } => {
             let value = expr(state, value)?;
             let mut names = state.names();
             let binder = binder(state, bound, &mut names)?;
-            Ok(PlainTest::Binds { binder, value, span: *span })
+            Ok(PlainTest::Binds {
+                binder,
+                value,
+                span: *span,
+            })
         }
     }
 }
@@ -251,7 +352,16 @@ pub(crate) fn branch_of(state: &mut Desugar, branch: &Branch) -> Result<PlainExp
             let span = branch.body.get().span().to(locals.span);
             let mark = state.scope.mark();
             let mut names = state.names();
-            let whole = let_in(state, locals.binds.as_slice(), branch.body.get(), &mut names, Place { of_where: true, span })?;
+            let whole = let_in(
+                state,
+                locals.binds.as_slice(),
+                branch.body.get(),
+                &mut names,
+                Place {
+                    of_where: true,
+                    span,
+                },
+            )?;
             state.scope.leave(mark);
             Ok(whole)
         }
@@ -264,11 +374,18 @@ fn block(state: &mut Desugar, tree: &ExprTree) -> Result<PlainExpr, Stop> {
     let whole = match tree {
         ExprTree::Let { binds, body, span } => {
             let mut names = state.names();
-            let place = Place { of_where: false, span: *span };
+            let place = Place {
+                of_where: false,
+                span: *span,
+            };
             let_in(state, binds.as_slice(), body.get(), &mut names, place)?
         }
         ExprTree::Do { statements, span } => do_block(state, statements.as_slice(), *span)?,
-        ExprTree::Ado { statements, result, span } => ado(state, statements.as_slice(), result.get(), *span)?,
+        ExprTree::Ado {
+            statements,
+            result,
+            span,
+        } => ado(state, statements.as_slice(), result.get(), *span)?,
         _ => atom(state, tree)?,
     };
     state.scope.leave(mark);
@@ -278,20 +395,36 @@ fn block(state: &mut Desugar, tree: &ExprTree) -> Result<PlainExpr, Stop> {
 #[cycle(exprs)]
 fn part(state: &mut Desugar, tree: &ExprTree) -> Result<PlainExpr, Stop> {
     match tree {
-        ExprTree::Access { subject, labels, span } => {
+        ExprTree::Access {
+            subject,
+            labels,
+            span,
+        } => {
             let numbers = state.numbers(holes_of_one(subject.get()))?;
             state.open_holes(&numbers)?;
             let mut whole = expr(state, subject.get())?;
             for label in labels.as_slice() {
                 let span = whole.span().to(label.span);
-                whole = PlainExpr::Access { subject: Boxed::new(state.alloc, whole)?, label: label.label.clone()?, span };
+                whole = PlainExpr::Access {
+                    subject: Boxed::new(state.alloc, whole)?,
+                    label: label.label.clone()?,
+                    span,
+                };
             }
             Ok(made_lambdas(state, &numbers, whole, *span)?)
         }
-        ExprTree::Update { subject, updates, span } => {
+        ExprTree::Update {
+            subject,
+            updates,
+            span,
+        } => {
             let subject = boxed(state, subject)?;
             let updates = update_list(state, updates.as_slice())?;
-            Ok(PlainExpr::Update { subject, updates, span: *span })
+            Ok(PlainExpr::Update {
+                subject,
+                updates,
+                span: *span,
+            })
         }
         ExprTree::Paren { inner, .. } => {
             let numbers = state.numbers(chain_holes(inner.get()))?;
@@ -299,24 +432,38 @@ fn part(state: &mut Desugar, tree: &ExprTree) -> Result<PlainExpr, Stop> {
             let whole = expr(state, inner.get())?;
             Ok(made_lambdas(state, &numbers, whole, inner.get().span())?)
         }
-        ExprTree::Typed { value, x_type, span } => {
+        ExprTree::Typed {
+            value,
+            x_type,
+            span,
+        } => {
             let value = boxed(state, value)?;
             let x_type = Boxed::new(state.alloc, typ(state, x_type.get())?)?;
-            Ok(PlainExpr::Typed { value, x_type, span: *span })
+            Ok(PlainExpr::Typed {
+                value,
+                x_type,
+                span: *span,
+            })
         }
         _ => atom(state, tree),
     }
 }
 
 fn holes_of_one(tree: &ExprTree) -> usize {
-    if matches!(tree, ExprTree::Hole { .. }) { 1 } else { 0 }
+    if matches!(tree, ExprTree::Hole { .. }) {
+        1
+    } else {
+        0
+    }
 }
 
 /// How many operands of a chain are `_`.
 fn chain_holes(tree: &ExprTree) -> usize {
     match tree {
         ExprTree::Hole { .. } => 1,
-        ExprTree::Operation { left, right, .. } => chain_holes(left.get()).saturating_add(chain_holes(right.get())),
+        ExprTree::Operation { left, right, .. } => chain_holes(left.get()).saturating_add(
+            chain_holes(right.get()),
+        ),
         ExprTree::Ticks { first, rest, .. } => {
             let mut count = chain_holes(first.get());
             for step in rest.as_slice() {
@@ -336,7 +483,11 @@ fn update_list(state: &mut Desugar, updates: &[Update]) -> Result<Items<PlainFie
     for update in updates {
         names.add_label(&update.label.label.0, update.label.span)?;
         let value = expr(state, update.value.get())?;
-        list.push(PlainField { label: update.label.label.clone()?, label_span: update.label.span, value })?;
+        list.push(PlainField {
+            label: update.label.label.clone()?,
+            label_span: update.label.span,
+            value,
+        })?;
     }
     Ok(list)
 }
@@ -349,11 +500,17 @@ fn brackets(state: &mut Desugar, tree: &ExprTree) -> Result<PlainExpr, Stop> {
             for item in items.as_slice() {
                 list.push(expr(state, item)?)?;
             }
-            Ok(PlainExpr::Array { items: list, span: *span })
+            Ok(PlainExpr::Array {
+                items: list,
+                span: *span,
+            })
         }
         ExprTree::XRecord { fields, span } => {
             let fields = field_list(state, fields.as_slice())?;
-            Ok(PlainExpr::XRecord { fields, span: *span })
+            Ok(PlainExpr::XRecord {
+                fields,
+                span: *span,
+            })
         }
         _ => atom(state, tree),
     }
@@ -370,9 +527,16 @@ fn field_list(state: &mut Desugar, fields: &[Field]) -> Result<Items<PlainField>
         names.add_label(&field.label.label.0, label_span)?;
         let value = match &field.value {
             Some(value) => expr(state, value.get())?,
-            None => PlainExpr::Variable { name: local(Ident(field.label.label.0.clone()?)), span: label_span },
+            None => PlainExpr::Variable {
+                name: local(Ident(field.label.label.0.clone()?)),
+                span: label_span,
+            },
         };
-        list.push(PlainField { label, label_span, value })?;
+        list.push(PlainField {
+            label,
+            label_span,
+            value,
+        })?;
     }
     Ok(list)
 }

@@ -26,12 +26,19 @@ pub(crate) fn groups_of(
         for member in &group.members {
             take_into(&mut waiting, *member, &mut list)?;
         }
-        groups.push(PlainBindGroup { recursive: group.recursive, binds: list })?;
+        groups.push(PlainBindGroup {
+            recursive: group.recursive,
+            binds: list,
+        })?;
     }
     Ok(groups)
 }
 
-fn take_into(waiting: &mut [Option<PlainBind>], number: u32, list: &mut Items<PlainBind>) -> Result<(), NoMemory> {
+fn take_into(
+    waiting: &mut [Option<PlainBind>],
+    number: u32,
+    list: &mut Items<PlainBind>,
+) -> Result<(), NoMemory> {
     if let Some(place) = waiting.get_mut(number as usize) {
         if let Some(bind) = place.take() {
             list.push(bind)?;

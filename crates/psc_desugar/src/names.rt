@@ -24,7 +24,11 @@ pub(crate) fn instance_names(alloc: Global, decls: &[Decl]) -> Result<Vec<Ident>
 }
 
 /// The made name, with its number among equal ones behind it from the second on.
-fn numbered(alloc: Global, counts: &mut BTreeMap<Text, u32>, name: Text) -> Result<Ident, NoMemory> {
+fn numbered(
+    alloc: Global,
+    counts: &mut BTreeMap<Text, u32>,
+    name: Text,
+) -> Result<Ident, NoMemory> {
     let before = match counts.get(&name) {
         Some(count) => *count,
         None => 0,
@@ -60,14 +64,23 @@ fn add_constructors(tree: &TypeTree, text: &mut String) -> Result<(), NoMemory> 
         TypeTree::Constructor { name } => add(name.name.name.as_str(), text),
         TypeTree::Function { .. } => add("Function", text),
         TypeTree::Paren { inner, .. } => add_constructors(inner.get(), text),
-        TypeTree::Application { function, arguments, .. } => {
+        TypeTree::Application {
+            function,
+            arguments,
+            ..
+        } => {
             add_constructors(function.get(), text)?;
             for argument in arguments.as_slice() {
                 add_constructors(argument, text)?;
             }
             Ok(())
         }
-        TypeTree::Operation { op, left, right, .. } => {
+        TypeTree::Operation {
+            op,
+            left,
+            right,
+            ..
+        } => {
             add_constructors(left.get(), text)?;
             add(op.name.name.as_str(), text)?;
             add_constructors(right.get(), text)
@@ -84,7 +97,12 @@ fn add_constructors(tree: &TypeTree, text: &mut String) -> Result<(), NoMemory> 
 
 #[cycle(names)]
 fn add_prefixed(tree: &TypeTree, text: &mut String) -> Result<(), NoMemory> {
-    if let TypeTree::Prefixed { prefixes, result, .. } = tree {
+    if let TypeTree::Prefixed {
+        prefixes,
+        result,
+        ..
+    } = tree
+    {
         for prefix in prefixes.as_slice() {
             if let TypePrefix::Argument { x_type, .. } = prefix {
                 add_constructors(x_type, text)?;

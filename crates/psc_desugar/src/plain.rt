@@ -25,10 +25,33 @@ pub fn desugar(alloc: Global, module: Module) -> Result<Result<Plain, PsError>, 
 }
 
 fn joined(alloc: Global, module: Module, declared: Declared) -> Result<Plain, NoMemory> {
-    let Declared { types, values, foreigns, instances } = declared;
+    let Declared {
+        types,
+        values,
+        foreigns,
+        instances,
+    } = declared;
     let fixities = fixities_of(alloc, module.decls.as_slice())?;
-    let Module { name, header, where_line: _, exports: _, imports, decls: _, span } = module;
-    Ok(Plain { name, header, imports, types, values, foreigns, instances, fixities, span })
+    let Module {
+        name,
+        header,
+        where_line: _,
+        exports: _,
+        imports,
+        decls: _,
+        span,
+    } = module;
+    Ok(Plain {
+        name,
+        header,
+        imports,
+        types,
+        values,
+        foreigns,
+        instances,
+        fixities,
+        span,
+    })
 }
 
 fn fixities_of(alloc: Global, decls: &[Decl]) -> Result<Items<FixityDecl>, NoMemory> {
@@ -46,8 +69,14 @@ fn copy_of(fixity: &FixityDecl) -> Result<FixityDecl, NoMemory> {
         side: fixity.side,
         power: fixity.power,
         of_types: fixity.of_types,
-        target: Mention { name: fixity.target.name.clone()?, span: fixity.target.span },
-        op: OpAt { op: fixity.op.op.clone()?, span: fixity.op.span },
+        target: Mention {
+            name: fixity.target.name.clone()?,
+            span: fixity.target.span,
+        },
+        op: OpAt {
+            op: fixity.op.op.clone()?,
+            span: fixity.op.span,
+        },
         span: fixity.span,
     })
 }

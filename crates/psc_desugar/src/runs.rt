@@ -20,14 +20,25 @@ fn goes_on(first: Option<&Clause>, clause: &Clause) -> bool {
 }
 
 /// Adds the next clause to the last run, or begins one.
-fn add(runs: &mut Vec<Run>, place: usize, first: Option<&Clause>, clause: &Clause) -> Result<bool, NoMemory> {
+fn add(
+    runs: &mut Vec<Run>,
+    place: usize,
+    first: Option<&Clause>,
+    clause: &Clause,
+) -> Result<bool, NoMemory> {
     if goes_on(first, clause) {
         if let Some(run) = runs.pop() {
-            runs.push(Run { from: run.from, to: place.saturating_add(1) })?;
+            runs.push(Run {
+                from: run.from,
+                to: place.saturating_add(1),
+            })?;
             return Ok(false);
         }
     }
-    runs.push(Run { from: place, to: place.saturating_add(1) })?;
+    runs.push(Run {
+        from: place,
+        to: place.saturating_add(1),
+    })?;
     Ok(true)
 }
 

@@ -94,7 +94,10 @@ impl Scope {
     /// Begins the bindings of a `let` that see one another, and tells their frame.
     pub(crate) fn open(&mut self) -> Result<usize, NoMemory> {
         let frame = self.frames.len();
-        self.frames.push(Frame { current: None, mentions: Vec::new(self.alloc) })?;
+        self.frames.push(Frame {
+            current: None,
+            mentions: Vec::new(self.alloc),
+        })?;
         Ok(frame)
     }
 

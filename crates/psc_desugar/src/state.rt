@@ -3,7 +3,9 @@
 use crate::scope::Scope;
 use crate::stop::{Stop, wrong};
 use psc_error::Code;
-use psc_text::{Ident, ModuleName, NoMemory, Qualified, Span, Text, begins_upper, read_module_name};
+use psc_text::{
+    Ident, ModuleName, NoMemory, Qualified, Span, Text, begins_upper, read_module_name,
+};
 use std::alloc::Global;
 use std::collections::BTreeSet;
 
@@ -85,7 +87,9 @@ impl Desugar {
     }
 
     pub(crate) fn names(&self) -> Names {
-        Names { seen: BTreeSet::new(self.alloc) }
+        Names {
+            seen: BTreeSet::new(self.alloc),
+        }
     }
 }
 
@@ -126,5 +130,8 @@ pub(crate) fn is_upper(name: &Text) -> bool {
 /// A local name as a mention has it.
 pub(crate) fn local(name: Ident) -> Qualified {
     let Ident(text) = name;
-    Qualified { module: None, name: text }
+    Qualified {
+        module: None,
+        name: text,
+    }
 }

@@ -27,13 +27,24 @@ enum Handed {
 /// What stands round the statements behind it.
 #[derive(Drop)]
 enum Step {
-    Call { function: PlainExpr, handed: Handed, span: Span },
-    Let { layers: Vec<Layer>, span: Span },
+    Call {
+        function: PlainExpr,
+        handed: Handed,
+        span: Span,
+    },
+    Let {
+        layers: Vec<Layer>,
+        span: Span,
+    },
 }
 
 /// The statements of a `do`, the last of which is its value.
 #[cycle(exprs)]
-pub(crate) fn do_block(state: &mut Desugar, statements: &[Stmt], span: Span) -> Result<PlainExpr, Stop> {
+pub(crate) fn do_block(
+    state: &mut Desugar,
+    statements: &[Stmt],
+    span: Span,
+) -> Result<PlainExpr, Stop> {
     let mut steps = Vec::new(state.alloc);
     let mut last = None;
     for (place, statement) in statements.iter().enumerate() {
@@ -52,36 +63,67 @@ pub(crate) fn do_block(state: &mut Desugar, statements: &[Stmt], span: Span) -> 
 #[cycle(exprs)]
 fn step_of(state: &mut Desugar, statement: &Stmt) -> Result<Step, Stop> {
     match statement {
-        Stmt::Binds { binder: BinderTree::Variable { name }, value, span } => {
+        Stmt::Binds {
+            binder: BinderTree::Variable { name },
+            value,
+            span,
+        } => {
             let function = expr(state, value)?;
             state.scope.enter(&name.name.0)?;
-            let handed = Handed::Named { name: name.name.clone()?, span: name.span };
-            Ok(Step::Call { function, handed, span: *span })
+            let handed = Handed::Named {
+                name: name.name.clone()?,
+                span: name.span,
+            };
+            Ok(Step::Call {
+                function,
+                handed,
+                span: *span,
+            })
         }
-        Stmt::Binds { binder: bound, value, span } => {
+        Stmt::Binds {
+            binder: bound,
+            value,
+            span,
+        } => {
             let number = state.number()?;
             let function = expr(state, value)?;
             let mut names = state.names();
             let binder = binder(state, bound, &mut names)?;
-            Ok(Step::Call { function, handed: Handed::Matched { number, binder }, span: *span })
+            Ok(Step::Call {
+                function,
+                handed: Handed::Matched { number, binder },
+                span: *span,
+            })
         }
         Stmt::Run { value } => {
             let number = state.number()?;
             let span = value.span();
             let function = expr(state, value)?;
-            Ok(Step::Call { function, handed: Handed::Made { number }, span })
+            Ok(Step::Call {
+                function,
+                handed: Handed::Made { number },
+                span,
+            })
         }
         Stmt::Let { binds, span } => {
             let mut names = state.names();
             let mut layers = Vec::new(state.alloc);
             add_layers(state, binds.as_slice(), &mut names, &mut layers)?;
-            Ok(Step::Let { layers, span: *span })
+            Ok(Step::Let {
+                layers,
+                span: *span,
+            })
         }
     }
 }
 
 /// Puts statements round the last one, from the last to the first.
-fn wrap_steps(state: &Desugar, steps: Vec<Step>, last: PlainExpr, span: Span) -> Result<PlainExpr, NoMemory> {
+fn wrap_steps(
+    state: &Desugar,
+    steps: Vec<Step>,
+    last: PlainExpr,
+    span: Span,
+) -> Result<PlainExpr, NoMemory> {
     let mut steps = steps;
     let mut whole = last;
     for _ in 0..steps.len() {
@@ -92,10 +134,27 @@ fn wrap_steps(state: &Desugar, steps: Vec<Step>, last: PlainExpr, span: Span) ->
     Ok(whole)
 }
 
-fn wrap_step(state: &Desugar, step: Step, rest: PlainExpr, span: Span) -> Result<PlainExpr, NoMemory> {
+fn wrap_step(
+    state: &Desugar,
+    step: Step,
+    rest: PlainExpr,
+    span: Span,
+) -> Result<PlainExpr, NoMemory> {
     match step {
-        Step::Let { layers, span: at } => wrap(state.alloc, layers, rest, Place { of_where: false, span: at.to(span_end(span)) }),
-        Step::Call { function, handed, span: at } => {
+        Step::Let { layers, span: at } => wrap(
+            state.alloc,
+            layers,
+            rest,
+            Place {
+                of_where: false,
+                span: at.to(span_end(span)),
+            },
+        ),
+        Step::Call {
+            function,
+            handed,
+            span: at,
+        } => {
             let whole = at.to(span_end(span));
             let behind = rest.span();
             let argument = handed_to(state, handed, rest, behind)?;
@@ -106,10 +165,20 @@ fn wrap_step(state: &Desugar, step: Step, rest: PlainExpr, span: Span) -> Result
 
 /// The empty place at the end of another.
 fn span_end(span: Span) -> Span {
-    Span { line: span.end_line, column: span.end_column, end_line: span.end_line, end_column: span.end_column }
+    Span {
+        line: span.end_line,
+        column: span.end_column,
+        end_line: span.end_line,
+        end_column: span.end_column,
+    }
 }
 
-fn handed_to(state: &Desugar, handed: Handed, body: PlainExpr, span: Span) -> Result<PlainExpr, NoMemory> {
+fn handed_to(
+    state: &Desugar,
+    handed: Handed,
+    body: PlainExpr,
+    span: Span,
+) -> Result<PlainExpr, NoMemory> {
     match handed {
         Handed::Named { name, span: at } => lambda(state.alloc, name, at, body, span),
         Handed::Made { number } => lambda(state.alloc, state.made(number)?, span, body, span),
@@ -124,10 +193,19 @@ fn handed_to(state: &Desugar, handed: Handed, body: PlainExpr, span: Span) -> Re
 
 /// An `ado`: its steps' values under `map` and `apply`, with a function of what the steps bind.
 #[cycle(exprs)]
-pub(crate) fn ado(state: &mut Desugar, statements: &[Stmt], result: &ExprTree, span: Span) -> Result<PlainExpr, Stop> {
+pub(crate) fn ado(
+    state: &mut Desugar,
+    statements: &[Stmt],
+    result: &ExprTree,
+    span: Span,
+) -> Result<PlainExpr, Stop> {
     let variables = steps_are_variables(statements);
     let count = steps_of(statements);
-    let numbers = if variables { Vec::new(state.alloc) } else { state.numbers(count)? };
+    let numbers = if variables {
+        Vec::new(state.alloc)
+    } else {
+        state.numbers(count)?
+    };
     let mark = state.scope.mark();
     let bound = step_binders(state, statements)?;
     let mut inner = state.scope.since(mark)?;
@@ -158,16 +236,34 @@ pub(crate) fn ado(state: &mut Desugar, statements: &[Stmt], result: &ExprTree, s
 
 /// The result in the `let`s. Where there is no step, `pure` stands round both.
 #[cycle(exprs)]
-fn ado_result(state: &mut Desugar, result: &ExprTree, layers: Vec<Layer>, count: usize, span: Span) -> Result<PlainExpr, Stop> {
-    let place = Place { of_where: false, span };
+fn ado_result(
+    state: &mut Desugar,
+    result: &ExprTree,
+    layers: Vec<Layer>,
+    count: usize,
+    span: Span,
+) -> Result<PlainExpr, Stop> {
+    let place = Place {
+        of_where: false,
+        span,
+    };
     match result {
-        ExprTree::Call { function, arguments, .. } if count == 0 => {
+        ExprTree::Call {
+            function,
+            arguments,
+            ..
+        } if count == 0 => {
             let function = expr(state, function.get())?;
             let mut whole = function;
             let mut layers = layers;
             for argument in arguments.as_slice() {
                 let argument = expr(state, argument)?;
-                let inside = wrap(state.alloc, mem::replace(&mut layers, Vec::new(state.alloc)), argument, place)?;
+                let inside = wrap(
+                    state.alloc,
+                    mem::replace(&mut layers, Vec::new(state.alloc)),
+                    argument,
+                    place,
+                )?;
                 whole = application(state.alloc, whole, inside, span)?;
             }
             Ok(whole)
@@ -180,7 +276,10 @@ fn ado_result(state: &mut Desugar, result: &ExprTree, layers: Vec<Layer>, count:
 }
 
 fn steps_of(statements: &[Stmt]) -> usize {
-    statements.iter().filter(|one| !matches!(one, Stmt::Let { .. })).count()
+    statements
+        .iter()
+        .filter(|one| !matches!(one, Stmt::Let { .. }))
+        .count()
 }
 
 /// Whether each step binds a variable.
@@ -224,9 +323,17 @@ fn ado_function(
 ) -> Result<PlainExpr, NoMemory> {
     if !variables {
         let mut alternatives = Items::new(state.alloc);
-        alternatives.push(PlainAlt { binders: bound, rhs: PlainRhs::Body(Boxed::new(state.alloc, body)?), span })?;
+        alternatives.push(PlainAlt {
+            binders: bound,
+            rhs: PlainRhs::Body(Boxed::new(state.alloc, body)?),
+            span,
+        })?;
         let scrutinees = made_all(state, numbers, span)?;
-        let whole = PlainExpr::Case { scrutinees, alternatives, span };
+        let whole = PlainExpr::Case {
+            scrutinees,
+            alternatives,
+            span,
+        };
         return made_lambdas(state, numbers, whole, span);
     }
     let mut bound = bound;
@@ -240,7 +347,12 @@ fn ado_function(
 }
 
 /// `apply (.. (map f e1) ..) en`, from the calls of `map` and `apply` with one argument.
-fn ado_calls(alloc: Global, calls: Vec<PlainExpr>, function: PlainExpr, span: Span) -> Result<PlainExpr, NoMemory> {
+fn ado_calls(
+    alloc: Global,
+    calls: Vec<PlainExpr>,
+    function: PlainExpr,
+    span: Span,
+) -> Result<PlainExpr, NoMemory> {
     let mut whole = function;
     for call in calls {
         whole = ado_call(alloc, call, whole, span)?;
@@ -249,9 +361,18 @@ fn ado_calls(alloc: Global, calls: Vec<PlainExpr>, function: PlainExpr, span: Sp
 }
 
 /// Puts what stands before a step between the step's function and its value.
-fn ado_call(alloc: Global, call: PlainExpr, before: PlainExpr, span: Span) -> Result<PlainExpr, NoMemory> {
+fn ado_call(
+    alloc: Global,
+    call: PlainExpr,
+    before: PlainExpr,
+    span: Span,
+) -> Result<PlainExpr, NoMemory> {
     match call {
-        PlainExpr::Application { function, argument, span: at } => {
+        PlainExpr::Application {
+            function,
+            argument,
+            span: at,
+        } => {
             let one = application(alloc, function.into_inner(), before, at)?;
             application(alloc, one, argument.into_inner(), span)
         }

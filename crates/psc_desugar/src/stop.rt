@@ -46,7 +46,11 @@ pub(crate) fn wrong(code: Code, part: &Text, span: Span) -> Stop {
 }
 
 /// The error of a module.
-pub(crate) fn error_of(alloc: Global, module: &ModuleName, problem: Problem) -> Result<PsError, NoMemory> {
+pub(crate) fn error_of(
+    alloc: Global,
+    module: &ModuleName,
+    problem: Problem,
+) -> Result<PsError, NoMemory> {
     let Problem { code, span, part } = problem;
     let mut parts = Vec::new(alloc);
     parts.push(part)?;

@@ -62,26 +62,53 @@ pub(crate) fn head_vars(state: &Desugar, vars: &[TypeVar]) -> Result<Items<Plain
 pub(crate) fn typ(state: &Desugar, tree: &TypeTree) -> Result<PlainType, NoMemory> {
     match tree {
         TypeTree::Prefixed { .. } => prefixed(state, tree),
-        TypeTree::Operation { op, left, right, span } => {
+        TypeTree::Operation {
+            op,
+            left,
+            right,
+            span,
+        } => {
             let left = typ(state, left.get())?;
             let right = typ(state, right.get())?;
-            let function = PlainType::Constructor { name: op.name.clone()?, span: op.span };
+            let function = PlainType::Constructor {
+                name: op.name.clone()?,
+                span: op.span,
+            };
             let one = application(state.alloc, function, left, *span)?;
             application(state.alloc, one, right, *span)
         }
-        TypeTree::Application { function, arguments, .. } => {
+        TypeTree::Application {
+            function,
+            arguments,
+            ..
+        } => {
             let function = typ(state, function.get())?;
             applied(state, function, arguments.as_slice())
         }
-        TypeTree::Variable { name } => Ok(PlainType::Variable { name: name.name.clone()?, span: name.span }),
-        TypeTree::Constructor { name } => Ok(PlainType::Constructor { name: name.name.clone()?, span: name.span }),
-        TypeTree::Function { span } => Ok(PlainType::Constructor { name: state.prim("Function")?, span: *span }),
-        TypeTree::Str { value, span } => Ok(PlainType::Symbol { value: value.clone()?, span: *span }),
+        TypeTree::Variable { name } => Ok(PlainType::Variable {
+            name: name.name.clone()?,
+            span: name.span,
+        }),
+        TypeTree::Constructor { name } => Ok(PlainType::Constructor {
+            name: name.name.clone()?,
+            span: name.span,
+        }),
+        TypeTree::Function { span } => Ok(PlainType::Constructor {
+            name: state.prim("Function")?,
+            span: *span,
+        }),
+        TypeTree::Str { value, span } => Ok(PlainType::Symbol {
+            value: value.clone()?,
+            span: *span,
+        }),
         TypeTree::Paren { inner, .. } => typ(state, inner.get()),
         TypeTree::Row { row: fields, span } => row(state, fields, *span),
         TypeTree::XRecord { row: fields, span } => {
             let fields = row(state, fields, *span)?;
-            let function = PlainType::Constructor { name: state.prim("Record")?, span: *span };
+            let function = PlainType::Constructor {
+                name: state.prim("Record")?,
+                span: *span,
+            };
             application(state.alloc, function, fields, *span)
         }
         // Bracketing left no chain.
@@ -89,7 +116,12 @@ pub(crate) fn typ(state: &Desugar, tree: &TypeTree) -> Result<PlainType, NoMemor
     }
 }
 
-fn application(alloc: Global, function: PlainType, argument: PlainType, span: Span) -> Result<PlainType, NoMemory> {
+fn application(
+    alloc: Global,
+    function: PlainType,
+    argument: PlainType,
+    span: Span,
+) -> Result<PlainType, NoMemory> {
     Ok(PlainType::Application {
         function: Boxed::new(alloc, function)?,
         argument: Boxed::new(alloc, argument)?,
@@ -98,7 +130,11 @@ fn application(alloc: Global, function: PlainType, argument: PlainType, span: Sp
 }
 
 #[cycle(types)]
-fn applied(state: &Desugar, function: PlainType, arguments: &[TypeTree]) -> Result<PlainType, NoMemory> {
+fn applied(
+    state: &Desugar,
+    function: PlainType,
+    arguments: &[TypeTree],
+) -> Result<PlainType, NoMemory> {
     let mut whole = function;
     for argument in arguments {
         let span = whole.span().to(argument.span());
@@ -142,14 +178,21 @@ fn row(state: &Desugar, tree: &RowTree, span: Span) -> Result<PlainType, NoMemor
 #[cycle(types)]
 fn prefixed(state: &Desugar, tree: &TypeTree) -> Result<PlainType, NoMemory> {
     match tree {
-        TypeTree::Prefixed { prefixes, result, .. } => {
+        TypeTree::Prefixed {
+            prefixes,
+            result,
+            ..
+        } => {
             let mut whole = typ(state, result.get())?;
             for next in prefixes.as_slice().iter().rev() {
                 whole = prefix(state, next, whole)?;
             }
             Ok(whole)
         }
-        _ => Ok(PlainType::Constructor { name: state.prim("Function")?, span: tree.span() }),
+        _ => Ok(PlainType::Constructor {
+            name: state.prim("Function")?,
+            span: tree.span(),
+        }),
     }
 }
 
@@ -162,21 +205,33 @@ fn prefix(state: &Desugar, next: &TypePrefix, behind: PlainType) -> Result<Plain
             for constraint in constraints.as_slice().iter().rev() {
                 let span = span.to(whole.span());
                 let constraint = constraint_of(state, constraint)?;
-                whole = PlainType::Given { constraint, body: Boxed::new(state.alloc, whole)?, span };
+                whole = PlainType::Given {
+                    constraint,
+                    body: Boxed::new(state.alloc, whole)?,
+                    span,
+                };
             }
             Ok(whole)
         }
         TypePrefix::Argument { x_type, span } => {
             let span = span.to(behind.span());
             let argument = typ(state, x_type)?;
-            let arrow = PlainType::Constructor { name: state.prim("Function")?, span };
+            let arrow = PlainType::Constructor {
+                name: state.prim("Function")?,
+                span,
+            };
             let one = application(state.alloc, arrow, argument, span)?;
             application(state.alloc, one, behind, span)
         }
     }
 }
 
-fn forall(alloc: Global, vars: &[TypeVar], span: Span, behind: PlainType) -> Result<PlainType, NoMemory> {
+fn forall(
+    alloc: Global,
+    vars: &[TypeVar],
+    span: Span,
+    behind: PlainType,
+) -> Result<PlainType, NoMemory> {
     let mut whole = behind;
     for var in vars.iter().rev() {
         let span = span.to(whole.span());
@@ -201,7 +256,10 @@ fn constraint_of(state: &Desugar, constraint: &Constr) -> Result<PlainConstraint
     })
 }
 
-pub(crate) fn constraints(state: &Desugar, list: &[Constr]) -> Result<Items<PlainConstraint>, NoMemory> {
+pub(crate) fn constraints(
+    state: &Desugar,
+    list: &[Constr],
+) -> Result<Items<PlainConstraint>, NoMemory> {
     let mut all = Items::new(state.alloc);
     for constraint in list {
         all.push(constraint_of(state, constraint)?)?;
@@ -211,5 +269,8 @@ pub(crate) fn constraints(state: &Desugar, list: &[Constr]) -> Result<Items<Plai
 
 /// A signature in plain forms.
 pub(crate) fn signature(state: &Desugar, sig: &Sig) -> Result<PlainSignature, NoMemory> {
-    Ok(PlainSignature { x_type: typ(state, &sig.x_type)?, span: sig.span })
+    Ok(PlainSignature {
+        x_type: typ(state, &sig.x_type)?,
+        span: sig.span,
+    })
 }

@@ -11,14 +11,28 @@ use std::alloc::Global;
 
 /// A binder with true names. The names that it binds come to the end of the list.
 #[cycle(binders)]
-pub(crate) fn binder(state: &mut Resolver, tree: &BinderTree, names: &mut Vec<Text>) -> Result<BinderTree, Stop> {
+pub(crate) fn binder(
+    state: &mut Resolver,
+    tree: &BinderTree,
+    names: &mut Vec<Text>,
+) -> Result<BinderTree, Stop> {
     match tree {
         BinderTree::Chain { .. } | BinderTree::Operation { .. } => operators(state, tree, names),
-        BinderTree::Named { .. } | BinderTree::Paren { .. } | BinderTree::Typed { .. } => around(state, tree, names),
-        BinderTree::Constructor { name, arguments, span } => {
+        BinderTree::Named { .. } | BinderTree::Paren { .. } | BinderTree::Typed { .. } => around(
+            state, tree, names,
+        ),
+        BinderTree::Constructor {
+            name,
+            arguments,
+            span,
+        } => {
             let name = state.global(Area::Constructor, name)?;
             let arguments = binders(state, arguments.as_slice(), names)?;
-            Ok(BinderTree::Constructor { name, arguments, span: *span })
+            Ok(BinderTree::Constructor {
+                name,
+                arguments,
+                span: *span,
+            })
         }
         BinderTree::Variable { name } => {
             names.push(name.name.0.clone()?)?;
@@ -30,25 +44,48 @@ pub(crate) fn binder(state: &mut Resolver, tree: &BinderTree, names: &mut Vec<Te
         }
         BinderTree::XRecord { fields, span } => {
             let fields = field_list(state, fields.as_slice(), names)?;
-            Ok(BinderTree::XRecord { fields, span: *span })
+            Ok(BinderTree::XRecord {
+                fields,
+                span: *span,
+            })
         }
         BinderTree::Wild { span } => Ok(BinderTree::Wild { span: *span }),
-        BinderTree::Integer { value, span } => Ok(BinderTree::Integer { value: *value, span: *span }),
-        BinderTree::Str { value, span } => Ok(BinderTree::Str { value: value.clone()?, span: *span }),
-        BinderTree::Character { value, span } => Ok(BinderTree::Character { value: *value, span: *span }),
-        BinderTree::Boolean { value, span } => Ok(BinderTree::Boolean { value: *value, span: *span }),
+        BinderTree::Integer { value, span } => Ok(BinderTree::Integer {
+            value: *value,
+            span: *span,
+        }),
+        BinderTree::Str { value, span } => Ok(BinderTree::Str {
+            value: value.clone()?,
+            span: *span,
+        }),
+        BinderTree::Character { value, span } => Ok(BinderTree::Character {
+            value: *value,
+            span: *span,
+        }),
+        BinderTree::Boolean { value, span } => Ok(BinderTree::Boolean {
+            value: *value,
+            span: *span,
+        }),
     }
 }
 
 #[cycle(binders)]
-fn boxed(state: &mut Resolver, tree: &Boxed<BinderTree>, names: &mut Vec<Text>) -> Result<Boxed<BinderTree>, Stop> {
+fn boxed(
+    state: &mut Resolver,
+    tree: &Boxed<BinderTree>,
+    names: &mut Vec<Text>,
+) -> Result<Boxed<BinderTree>, Stop> {
     let alloc = state.alloc;
     let tree = binder(state, tree.get(), names)?;
     Ok(Boxed::new(alloc, tree)?)
 }
 
 #[cycle(binders)]
-pub(crate) fn binders(state: &mut Resolver, trees: &[BinderTree], names: &mut Vec<Text>) -> Result<Items<BinderTree>, Stop> {
+pub(crate) fn binders(
+    state: &mut Resolver,
+    trees: &[BinderTree],
+    names: &mut Vec<Text>,
+) -> Result<Items<BinderTree>, Stop> {
     let mut list = Items::new(state.alloc);
     for tree in trees {
         list.push(binder(state, tree, names)?)?;
@@ -57,25 +94,47 @@ pub(crate) fn binders(state: &mut Resolver, trees: &[BinderTree], names: &mut Ve
 }
 
 #[cycle(binders)]
-fn operators(state: &mut Resolver, tree: &BinderTree, names: &mut Vec<Text>) -> Result<BinderTree, Stop> {
+fn operators(
+    state: &mut Resolver,
+    tree: &BinderTree,
+    names: &mut Vec<Text>,
+) -> Result<BinderTree, Stop> {
     match tree {
         BinderTree::Chain { first, rest, span } => {
             let first = boxed(state, first, names)?;
             let rest = steps(state, rest.as_slice(), names)?;
-            Ok(BinderTree::Chain { first, rest, span: *span })
+            Ok(BinderTree::Chain {
+                first,
+                rest,
+                span: *span,
+            })
         }
-        BinderTree::Operation { op, left, right, span } => {
+        BinderTree::Operation {
+            op,
+            left,
+            right,
+            span,
+        } => {
             let left = boxed(state, left, names)?;
             let op = state.operator(Area::ValueOp, op)?;
             let right = boxed(state, right, names)?;
-            Ok(BinderTree::Operation { op, left, right, span: *span })
+            Ok(BinderTree::Operation {
+                op,
+                left,
+                right,
+                span: *span,
+            })
         }
         _ => Ok(BinderTree::Wild { span: tree.span() }),
     }
 }
 
 #[cycle(binders)]
-fn steps(state: &mut Resolver, steps: &[BinderStep], names: &mut Vec<Text>) -> Result<Items<BinderStep>, Stop> {
+fn steps(
+    state: &mut Resolver,
+    steps: &[BinderStep],
+    names: &mut Vec<Text>,
+) -> Result<Items<BinderStep>, Stop> {
     let mut list = Items::new(state.alloc);
     for step in steps {
         let op = state.operator(Area::ValueOp, &step.op)?;
@@ -86,28 +145,52 @@ fn steps(state: &mut Resolver, steps: &[BinderStep], names: &mut Vec<Text>) -> R
 }
 
 #[cycle(binders)]
-fn around(state: &mut Resolver, tree: &BinderTree, names: &mut Vec<Text>) -> Result<BinderTree, Stop> {
+fn around(
+    state: &mut Resolver,
+    tree: &BinderTree,
+    names: &mut Vec<Text>,
+) -> Result<BinderTree, Stop> {
     let alloc = state.alloc;
     match tree {
-        BinderTree::Named { names: own, inner, span } => {
+        BinderTree::Named {
+            names: own,
+            inner,
+            span,
+        } => {
             let own = ident_list(alloc, own.as_slice(), names)?;
             let inner = boxed(state, inner, names)?;
-            Ok(BinderTree::Named { names: own, inner, span: *span })
+            Ok(BinderTree::Named {
+                names: own,
+                inner,
+                span: *span,
+            })
         }
         BinderTree::Paren { inner, span } => {
             let inner = boxed(state, inner, names)?;
             Ok(BinderTree::Paren { inner, span: *span })
         }
-        BinderTree::Typed { inner, x_type, span } => {
+        BinderTree::Typed {
+            inner,
+            x_type,
+            span,
+        } => {
             let inner = boxed(state, inner, names)?;
             let x_type = Boxed::new(alloc, typ(state, x_type.get())?)?;
-            Ok(BinderTree::Typed { inner, x_type, span: *span })
+            Ok(BinderTree::Typed {
+                inner,
+                x_type,
+                span: *span,
+            })
         }
         _ => Ok(BinderTree::Wild { span: tree.span() }),
     }
 }
 
-fn ident_list(alloc: Global, idents: &[IdentAt], names: &mut Vec<Text>) -> Result<Items<IdentAt>, NoMemory> {
+fn ident_list(
+    alloc: Global,
+    idents: &[IdentAt],
+    names: &mut Vec<Text>,
+) -> Result<Items<IdentAt>, NoMemory> {
     let mut list = Items::new(alloc);
     for name in idents {
         names.push(name.name.0.clone()?)?;
@@ -117,7 +200,11 @@ fn ident_list(alloc: Global, idents: &[IdentAt], names: &mut Vec<Text>) -> Resul
 }
 
 #[cycle(binders)]
-fn field_list(state: &mut Resolver, fields: &[BinderField], names: &mut Vec<Text>) -> Result<Items<BinderField>, Stop> {
+fn field_list(
+    state: &mut Resolver,
+    fields: &[BinderField],
+    names: &mut Vec<Text>,
+) -> Result<Items<BinderField>, Stop> {
     let mut list = Items::new(state.alloc);
     for field in fields {
         let label = label(&field.label)?;
@@ -143,13 +230,20 @@ pub(crate) fn bound_names(tree: &BinderTree, names: &mut Vec<Text>) -> Result<()
             names.push(name.name.0.clone()?)?;
             Ok(())
         }
-        BinderTree::Named { names: own, inner, .. } => {
+        BinderTree::Named {
+            names: own,
+            inner,
+            ..
+        } => {
             for name in own.as_slice() {
                 names.push(name.name.0.clone()?)?;
             }
             bound_names(inner.get(), names)
         }
-        BinderTree::Paren { inner, .. } | BinderTree::Typed { inner, .. } => bound_names(inner.get(), names),
+        BinderTree::Paren { inner, .. } | BinderTree::Typed { inner, .. } => bound_names(
+            inner.get(),
+            names,
+        ),
         BinderTree::Array { items, .. } => all_bound(items.as_slice(), names),
         BinderTree::XRecord { fields, .. } => field_names(fields.as_slice(), names),
         BinderTree::Wild { .. }

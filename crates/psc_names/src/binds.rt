@@ -20,7 +20,11 @@ pub(crate) fn alternatives(state: &mut Resolver, list: &[Alt]) -> Result<Items<A
         state.values.enter_all(&names)?;
         let rhs = right_side(state, &alt.rhs)?;
         state.values.leave(mark)?;
-        done.push(Alt { binders, rhs, span: alt.span })?;
+        done.push(Alt {
+            binders,
+            rhs,
+            span: alt.span,
+        })?;
     }
     Ok(done)
 }
@@ -41,7 +45,11 @@ fn guard_list(state: &mut Resolver, guards: &[Guard]) -> Result<Items<Guard>, St
         let tests = test_list(state, guard.tests.as_slice())?;
         let branch = branch_of(state, &guard.branch)?;
         state.values.leave(mark)?;
-        list.push(Guard { tests, branch, span: guard.span })?;
+        list.push(Guard {
+            tests,
+            branch,
+            span: guard.span,
+        })?;
     }
     Ok(list)
 }
@@ -59,13 +67,23 @@ fn test_list(state: &mut Resolver, tests: &[Test]) -> Result<Items<Test>, Stop> 
 #[cycle(exprs)]
 fn test_of(state: &mut Resolver, test: &Test) -> Result<Test, Stop> {
     match test {
-        Test::Holds { value } => Ok(Test::Holds { value: expr(state, value)? }),
-        Test::Binds { binder: bound, value, span } => {
+        Test::Holds { value } => Ok(Test::Holds {
+            value: expr(state, value)?,
+        }),
+        Test::Binds {
+            binder: bound,
+            value,
+            span,
+        } => {
             let mut names = Vec::new(state.alloc);
             let binder = binder(state, bound, &mut names)?;
             let value = expr(state, value)?;
             state.values.enter_all(&names)?;
-            Ok(Test::Binds { binder, value, span: *span })
+            Ok(Test::Binds {
+                binder,
+                value,
+                span: *span,
+            })
         }
     }
 }
@@ -74,7 +92,10 @@ fn test_of(state: &mut Resolver, test: &Test) -> Result<Test, Stop> {
 #[cycle(exprs)]
 fn branch_of(state: &mut Resolver, branch: &Branch) -> Result<Branch, Stop> {
     let Some(locals) = &branch.locals else {
-        return Ok(Branch { body: boxed(state, &branch.body)?, locals: None });
+        return Ok(Branch {
+            body: boxed(state, &branch.body)?,
+            locals: None,
+        });
     };
     let mark = state.values.mark();
     let mut names = Vec::new(state.alloc);
@@ -84,7 +105,13 @@ fn branch_of(state: &mut Resolver, branch: &Branch) -> Result<Branch, Stop> {
     state.values.leave(mark)?;
     let binds = bind_segments(state, locals.binds.as_slice())?;
     state.values.leave(mark)?;
-    Ok(Branch { body, locals: Some(Locals { binds, span: locals.span }) })
+    Ok(Branch {
+        body,
+        locals: Some(Locals {
+            binds,
+            span: locals.span,
+        }),
+    })
 }
 
 /// The names that local bindings bind.
@@ -128,13 +155,19 @@ pub(crate) struct Signed {
 
 impl Signed {
     pub(crate) fn nothing(state: &Resolver) -> Signed {
-        Signed { name: None, vars: Vec::new(state.alloc) }
+        Signed {
+            name: None,
+            vars: Vec::new(state.alloc),
+        }
     }
 
     pub(crate) fn by(state: &Resolver, sig: &Sig) -> Result<Signed, NoMemory> {
         let mut vars = Vec::new(state.alloc);
         front_vars(&sig.x_type, &mut vars)?;
-        Ok(Signed { name: Some(sig.name.name.0.clone()?), vars })
+        Ok(Signed {
+            name: Some(sig.name.name.0.clone()?),
+            vars,
+        })
     }
 
     /// The variables for a clause.
@@ -170,19 +203,31 @@ fn bind_of(state: &mut Resolver, bind: &Bind, signed: &Signed) -> Result<Bind, S
     match bind {
         Bind::Sig(sig) => Ok(Bind::Sig(signature(state, sig)?)),
         Bind::Clause(written) => Ok(Bind::Clause(clause(state, written, signed.vars_of(written))?)),
-        Bind::Value { binder: bound, rhs, span } => {
+        Bind::Value {
+            binder: bound,
+            rhs,
+            span,
+        } => {
             let mut names = Vec::new(state.alloc);
             let binder = binder(state, bound, &mut names)?;
             let rhs = right_side(state, rhs)?;
             state.values.enter_all(&names)?;
-            Ok(Bind::Value { binder, rhs, span: *span })
+            Ok(Bind::Value {
+                binder,
+                rhs,
+                span: *span,
+            })
         }
     }
 }
 
 /// A clause with the type variables that its signature binds.
 #[cycle(exprs)]
-pub(crate) fn clause(state: &mut Resolver, written: &Clause, type_vars: &[Text]) -> Result<Clause, Stop> {
+pub(crate) fn clause(
+    state: &mut Resolver,
+    written: &Clause,
+    type_vars: &[Text],
+) -> Result<Clause, Stop> {
     let types = state.type_vars.mark();
     state.type_vars.enter_all(type_vars)?;
     let mut names = Vec::new(state.alloc);
@@ -192,12 +237,20 @@ pub(crate) fn clause(state: &mut Resolver, written: &Clause, type_vars: &[Text])
     let rhs = right_side(state, &written.rhs)?;
     state.values.leave(mark)?;
     state.type_vars.leave(types)?;
-    Ok(Clause { name: ident(&written.name)?, arguments, rhs, span: written.span })
+    Ok(Clause {
+        name: ident(&written.name)?,
+        arguments,
+        rhs,
+        span: written.span,
+    })
 }
 
 /// The statements of a `do`. The value of each but the last is a call of `bind` or `discard`.
 #[cycle(exprs)]
-pub(crate) fn do_statements(state: &mut Resolver, statements: &[Stmt]) -> Result<Items<Stmt>, Stop> {
+pub(crate) fn do_statements(
+    state: &mut Resolver,
+    statements: &[Stmt],
+) -> Result<Items<Stmt>, Stop> {
     let mut list = Items::new(state.alloc);
     for (place, statement) in statements.iter().enumerate() {
         let is_last = statements.len() - place == 1;
@@ -210,14 +263,22 @@ pub(crate) fn do_statements(state: &mut Resolver, statements: &[Stmt]) -> Result
 fn do_statement(state: &mut Resolver, statement: &Stmt, is_last: bool) -> Result<Stmt, Stop> {
     let alloc = state.alloc;
     match statement {
-        Stmt::Binds { binder: bound, value, span } => {
+        Stmt::Binds {
+            binder: bound,
+            value,
+            span,
+        } => {
             let function = state.made("bind", *span)?;
             let mut names = Vec::new(alloc);
             let binder = binder(state, bound, &mut names)?;
             let value = expr(state, value)?;
             state.values.enter_all(&names)?;
             let value = made_call(alloc, function, value, *span)?;
-            Ok(Stmt::Binds { binder, value, span: *span })
+            Ok(Stmt::Binds {
+                binder,
+                value,
+                span: *span,
+            })
         }
         Stmt::Let { binds, span } => {
             let binds = bind_segments(state, binds.as_slice())?;
@@ -225,12 +286,16 @@ fn do_statement(state: &mut Resolver, statement: &Stmt, is_last: bool) -> Result
         }
         Stmt::Run { value } => {
             if is_last {
-                return Ok(Stmt::Run { value: expr(state, value)? });
+                return Ok(Stmt::Run {
+                    value: expr(state, value)?,
+                });
             }
             let span = value.span();
             let function = state.made("discard", span)?;
             let value = expr(state, value)?;
-            Ok(Stmt::Run { value: made_call(alloc, function, value, span)? })
+            Ok(Stmt::Run {
+                value: made_call(alloc, function, value, span)?,
+            })
         }
     }
 }
@@ -248,10 +313,26 @@ struct AdoNames {
 
 impl AdoNames {
     fn find(state: &mut Resolver, steps: usize, span: Span) -> Result<AdoNames, Stop> {
-        let of_result = if steps == 0 { Some(state.made("pure", span)?) } else { None };
-        let of_later = if steps > 1 { Some(state.made("apply", span)?) } else { None };
-        let of_first = if steps > 0 { Some(state.made("map", span)?) } else { None };
-        Ok(AdoNames { of_result, of_later, of_first })
+        let of_result = if steps == 0 {
+            Some(state.made("pure", span)?)
+        } else {
+            None
+        };
+        let of_later = if steps > 1 {
+            Some(state.made("apply", span)?)
+        } else {
+            None
+        };
+        let of_first = if steps > 0 {
+            Some(state.made("map", span)?)
+        } else {
+            None
+        };
+        Ok(AdoNames {
+            of_result,
+            of_later,
+            of_first,
+        })
     }
 
     /// The function of the next step.
@@ -268,7 +349,10 @@ impl AdoNames {
 
 /// How many items are steps, and not `let`s.
 fn steps_of(statements: &[Stmt]) -> usize {
-    statements.iter().filter(|one| !matches!(one, Stmt::Let { .. })).count()
+    statements
+        .iter()
+        .filter(|one| !matches!(one, Stmt::Let { .. }))
+        .count()
 }
 
 /// The names that the steps bind.
@@ -286,7 +370,11 @@ fn step_names(statements: &[Stmt], names: &mut Vec<Text>) -> Result<(), NoMemory
 pub(crate) fn ado(state: &mut Resolver, tree: &ExprTree) -> Result<ExprTree, Stop> {
     let alloc = state.alloc;
     match tree {
-        ExprTree::Ado { statements, result, span } => {
+        ExprTree::Ado {
+            statements,
+            result,
+            span,
+        } => {
             let mut functions = AdoNames::find(state, steps_of(statements.as_slice()), *span)?;
             let mut names = Vec::new(alloc);
             step_names(statements.as_slice(), &mut names)?;
@@ -299,7 +387,11 @@ pub(crate) fn ado(state: &mut Resolver, tree: &ExprTree) -> Result<ExprTree, Sto
                 Some(function) => made_call(alloc, function, result, *span)?,
                 None => result,
             };
-            Ok(ExprTree::Ado { statements, result: Boxed::new(alloc, result)?, span: *span })
+            Ok(ExprTree::Ado {
+                statements,
+                result: Boxed::new(alloc, result)?,
+                span: *span,
+            })
         }
         _ => Ok(ExprTree::Hole { span: tree.span() }),
     }
@@ -307,7 +399,12 @@ pub(crate) fn ado(state: &mut Resolver, tree: &ExprTree) -> Result<ExprTree, Sto
 
 /// The items of an `ado`. The names of its `let`s come to those of its steps.
 #[cycle(exprs)]
-fn ado_items(state: &mut Resolver, statements: &[Stmt], functions: &mut AdoNames, names: &mut Vec<Text>) -> Result<Items<Stmt>, Stop> {
+fn ado_items(
+    state: &mut Resolver,
+    statements: &[Stmt],
+    functions: &mut AdoNames,
+    names: &mut Vec<Text>,
+) -> Result<Items<Stmt>, Stop> {
     let mut list = Items::new(state.alloc);
     for statement in statements {
         list.push(ado_item(state, statement, functions, names)?)?;
@@ -316,28 +413,50 @@ fn ado_items(state: &mut Resolver, statements: &[Stmt], functions: &mut AdoNames
 }
 
 #[cycle(exprs)]
-fn ado_item(state: &mut Resolver, statement: &Stmt, functions: &mut AdoNames, names: &mut Vec<Text>) -> Result<Stmt, Stop> {
+fn ado_item(
+    state: &mut Resolver,
+    statement: &Stmt,
+    functions: &mut AdoNames,
+    names: &mut Vec<Text>,
+) -> Result<Stmt, Stop> {
     match statement {
-        Stmt::Binds { binder: bound, value, span } => {
+        Stmt::Binds {
+            binder: bound,
+            value,
+            span,
+        } => {
             let mut own = Vec::new(state.alloc);
             let binder = binder(state, bound, &mut own)?;
             let value = ado_value(state, value, functions)?;
-            Ok(Stmt::Binds { binder, value, span: *span })
+            Ok(Stmt::Binds {
+                binder,
+                value,
+                span: *span,
+            })
         }
-        Stmt::Run { value } => Ok(Stmt::Run { value: ado_value(state, value, functions)? }),
+        Stmt::Run { value } => Ok(Stmt::Run {
+            value: ado_value(state, value, functions)?,
+        }),
         Stmt::Let { binds, span } => {
             let mark = state.values.mark();
             state.values.enter_all(names)?;
             let resolved = bind_segments(state, binds.as_slice())?;
             state.values.leave(mark)?;
             add_names(binds.as_slice(), names)?;
-            Ok(Stmt::Let { binds: resolved, span: *span })
+            Ok(Stmt::Let {
+                binds: resolved,
+                span: *span,
+            })
         }
     }
 }
 
 #[cycle(exprs)]
-fn ado_value(state: &mut Resolver, value: &ExprTree, functions: &mut AdoNames) -> Result<ExprTree, Stop> {
+fn ado_value(
+    state: &mut Resolver,
+    value: &ExprTree,
+    functions: &mut AdoNames,
+) -> Result<ExprTree, Stop> {
     let span = value.span();
     let value = expr(state, value)?;
     match functions.next()? {

@@ -7,7 +7,7 @@
 use crate::keys::{Area, Key};
 use crate::stop::{Problem, error_of};
 use psc_error::{Code, PsError};
-use psc_externs::{ClassRow, Externs, ExportRow, FixityRow, OpSpace};
+use psc_externs::{ClassRow, ExportRow, Externs, FixityRow, OpSpace};
 use psc_text::{ModuleName, NoMemory, Qualified, Span, Text};
 use psc_type::{Constraint, Ty};
 use std::alloc::Global;
@@ -73,10 +73,22 @@ fn lack_error(alloc: Global, module: &ModuleName, lack: Lack) -> Result<PsError,
     let Lack { span, name } = lack;
     let mut parts = Vec::new(alloc);
     parts.push(name)?;
-    error_of(alloc, module, Problem { code: Code::TransitiveExportError, span, parts })
+    error_of(
+        alloc,
+        module,
+        Problem {
+            code: Code::TransitiveExportError,
+            span,
+            parts,
+        },
+    )
 }
 
-fn own_exports(alloc: Global, exports: &[ExportRow], module: &ModuleName) -> Result<BTreeSet<Key>, NoMemory> {
+fn own_exports(
+    alloc: Global,
+    exports: &[ExportRow],
+    module: &ModuleName,
+) -> Result<BTreeSet<Key>, NoMemory> {
     let mut names = BTreeSet::new(alloc);
     for row in exports {
         if row.module.same(module) {
@@ -114,7 +126,12 @@ impl Places {
         Ok(places)
     }
 
-    fn add_constructor(&mut self, alloc: Global, parent: &Text, place: usize) -> Result<(), NoMemory> {
+    fn add_constructor(
+        &mut self,
+        alloc: Global,
+        parent: &Text,
+        place: usize,
+    ) -> Result<(), NoMemory> {
         if let Some(places) = self.constructors.get_mut(parent) {
             places.push(place)?;
             return Ok(());
@@ -208,7 +225,13 @@ impl<'a> Closing<'a> {
         Ok(())
     }
 
-    fn operator(&mut self, places: &Places, area: Area, op: &Text, span: Span) -> Result<(), NoMemory> {
+    fn operator(
+        &mut self,
+        places: &Places,
+        area: Area,
+        op: &Text,
+        span: Span,
+    ) -> Result<(), NoMemory> {
         let key = Key::plain(area, op)?;
         if let Some(place) = places.fixities.get(&key) {
             if let Some(row) = self.own.fixities.as_slice().get(*place) {
@@ -231,7 +254,11 @@ impl<'a> Closing<'a> {
     /// A mention of a type or class.
     fn named(&mut self, name: &Qualified, span: Span) -> Result<(), NoMemory> {
         match &name.module {
-            Some(module) if module.same(&self.own.module) => self.needs(Area::XType, &name.name, span),
+            Some(module) if module.same(&self.own.module) => self.needs(
+                Area::XType,
+                &name.name,
+                span,
+            ),
             _ => Ok(()),
         }
     }
@@ -247,7 +274,10 @@ impl<'a> Closing<'a> {
             Some(first) => span < first.span || (span == first.span && *name < first.name),
         };
         if comes_first {
-            self.first = Some(Lack { span, name: name.clone()? });
+            self.first = Some(Lack {
+                span,
+                name: name.clone()?,
+            });
         }
         Ok(())
     }

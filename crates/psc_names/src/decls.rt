@@ -6,7 +6,8 @@ use crate::resolver::{Resolver, ident};
 use crate::stop::Stop;
 use crate::types::{add_all_vars, bind_vars, constraint_list, kind, signature, typ, typs};
 use psc_ast::{
-    ClassDecl, Clause, Ctor, DataDecl, Decl, Dep, FixityDecl, IdentAt, InstanceDecl, OpAt, Sig, SynonymDecl, UpperAt,
+    ClassDecl, Clause, Ctor, DataDecl, Decl, Dep, FixityDecl, IdentAt, InstanceDecl, OpAt, Sig,
+    SynonymDecl, UpperAt,
 };
 use psc_text::NoMemory;
 use sqlite_items::Items;
@@ -32,7 +33,10 @@ fn decl_of(state: &mut Resolver, decl: &Decl, signed: &Signed) -> Result<Decl, S
         Decl::Newtype(data) => Ok(Decl::Newtype(data_of(state, data)?)),
         Decl::Synonym(synonym) => Ok(Decl::Synonym(synonym_of(state, synonym)?)),
         Decl::KindSig { .. } | Decl::ForeignData { .. } => kind_decl(state, decl),
-        Decl::ForeignValue { sig, span } => Ok(Decl::ForeignValue { sig: signature(state, sig)?, span: *span }),
+        Decl::ForeignValue { sig, span } => Ok(Decl::ForeignValue {
+            sig: signature(state, sig)?,
+            span: *span,
+        }),
         Decl::Class(class) => Ok(Decl::Class(class_of(state, class)?)),
         Decl::Instance(instance) => Ok(Decl::Instance(instance_of(state, instance)?)),
         Decl::Fixity(fixity) => Ok(Decl::Fixity(fixity_of(state, fixity)?)),
@@ -42,19 +46,31 @@ fn decl_of(state: &mut Resolver, decl: &Decl, signed: &Signed) -> Result<Decl, S
 }
 
 fn upper(name: &UpperAt) -> Result<UpperAt, NoMemory> {
-    Ok(UpperAt { name: name.name.clone()?, span: name.span })
+    Ok(UpperAt {
+        name: name.name.clone()?,
+        span: name.span,
+    })
 }
 
 /// A declaration that has a kind and mentions nothing.
 fn kind_decl(state: &mut Resolver, decl: &Decl) -> Result<Decl, Stop> {
     match decl {
-        Decl::KindSig { of, name, kind: written, span } => Ok(Decl::KindSig {
+        Decl::KindSig {
+            of,
+            name,
+            kind: written,
+            span,
+        } => Ok(Decl::KindSig {
             of: *of,
             name: upper(name)?,
             kind: kind(state.alloc, written)?,
             span: *span,
         }),
-        Decl::ForeignData { name, kind: written, span } => Ok(Decl::ForeignData {
+        Decl::ForeignData {
+            name,
+            kind: written,
+            span,
+        } => Ok(Decl::ForeignData {
             name: upper(name)?,
             kind: kind(state.alloc, written)?,
             span: *span,
@@ -69,10 +85,19 @@ fn data_of(state: &mut Resolver, data: &DataDecl) -> Result<DataDecl, Stop> {
     let mut ctors = Items::new(state.alloc);
     for ctor in data.ctors.as_slice() {
         let fields = typs(state, ctor.fields.as_slice())?;
-        ctors.push(Ctor { name: upper(&ctor.name)?, fields, span: ctor.span })?;
+        ctors.push(Ctor {
+            name: upper(&ctor.name)?,
+            fields,
+            span: ctor.span,
+        })?;
     }
     state.type_vars.leave(mark)?;
-    Ok(DataDecl { name: upper(&data.name)?, vars, ctors, span: data.span })
+    Ok(DataDecl {
+        name: upper(&data.name)?,
+        vars,
+        ctors,
+        span: data.span,
+    })
 }
 
 fn synonym_of(state: &mut Resolver, synonym: &SynonymDecl) -> Result<SynonymDecl, Stop> {
@@ -80,7 +105,12 @@ fn synonym_of(state: &mut Resolver, synonym: &SynonymDecl) -> Result<SynonymDecl
     let vars = bind_vars(state, synonym.vars.as_slice())?;
     let body = typ(state, &synonym.body)?;
     state.type_vars.leave(mark)?;
-    Ok(SynonymDecl { name: upper(&synonym.name)?, vars, body, span: synonym.span })
+    Ok(SynonymDecl {
+        name: upper(&synonym.name)?,
+        vars,
+        body,
+        span: synonym.span,
+    })
 }
 
 /// A class. Its variables are bound in its superclasses, its dependencies and its members.
@@ -92,11 +122,22 @@ fn class_of(state: &mut Resolver, class: &ClassDecl) -> Result<ClassDecl, Stop> 
     for dep in class.deps.as_slice() {
         let from = determined(state, dep.from.as_slice())?;
         let to = determined(state, dep.to.as_slice())?;
-        deps.push(Dep { from, to, span: dep.span })?;
+        deps.push(Dep {
+            from,
+            to,
+            span: dep.span,
+        })?;
     }
     let members = members_of(state, class.members.as_slice())?;
     state.type_vars.leave(mark)?;
-    Ok(ClassDecl { supers, name: upper(&class.name)?, vars, deps, members, span: class.span })
+    Ok(ClassDecl {
+        supers,
+        name: upper(&class.name)?,
+        vars,
+        deps,
+        members,
+        span: class.span,
+    })
 }
 
 fn determined(state: &mut Resolver, names: &[IdentAt]) -> Result<Items<IdentAt>, Stop> {
@@ -160,7 +201,10 @@ fn fixity_of(state: &mut Resolver, fixity: &FixityDecl) -> Result<FixityDecl, St
         power: fixity.power,
         of_types: fixity.of_types,
         target,
-        op: OpAt { op: fixity.op.op.clone()?, span: fixity.op.span },
+        op: OpAt {
+            op: fixity.op.op.clone()?,
+            span: fixity.op.span,
+        },
         span: fixity.span,
     })
 }

@@ -33,7 +33,12 @@ struct Origin {
 /// The exports of a module.
 ///
 /// Wrong at the first export, in the order of the source, that names what is not there or brings a second true name.
-pub(crate) fn export_all(alloc: Global, module: &Module, own: &Own, imported: &Imported) -> Result<Exported, Stop> {
+pub(crate) fn export_all(
+    alloc: Global,
+    module: &Module,
+    own: &Own,
+    imported: &Imported,
+) -> Result<Exported, Stop> {
     let mut exporter = Exporter {
         alloc,
         module: module.name.name.clone()?,
@@ -74,7 +79,13 @@ impl Exporter {
         match reference {
             Ref::Value { name } => self.declared(own, Area::Value, &name.name.0, name.span, span),
             Ref::Operator { op, .. } => self.declared(own, Area::ValueOp, &op.op.0, op.span, span),
-            Ref::TypeOperator { op, .. } => self.declared(own, Area::TypeOp, &op.op.0, op.span, span),
+            Ref::TypeOperator { op, .. } => self.declared(
+                own,
+                Area::TypeOp,
+                &op.op.0,
+                op.span,
+                span,
+            ),
             Ref::Class { name, .. } => self.x_type(own, name, true, span),
             Ref::XType { name, ctors, .. } => {
                 self.x_type(own, name, false, span)?;
@@ -83,7 +94,14 @@ impl Exporter {
         }
     }
 
-    fn declared(&mut self, own: &Own, area: Area, name: &Text, at: Span, span: Span) -> Result<(), Stop> {
+    fn declared(
+        &mut self,
+        own: &Own,
+        area: Area,
+        name: &Text,
+        at: Span,
+        span: Span,
+    ) -> Result<(), Stop> {
         if !own.has(area, name)? {
             return Err(self.unknown(name, at));
         }
@@ -98,7 +116,13 @@ impl Exporter {
         self.declared(own, Area::XType, &name.name, name.span, span)
     }
 
-    fn constructors(&mut self, own: &Own, x_type: &UpperAt, ctors: &Ctors, span: Span) -> Result<(), Stop> {
+    fn constructors(
+        &mut self,
+        own: &Own,
+        x_type: &UpperAt,
+        ctors: &Ctors,
+        span: Span,
+    ) -> Result<(), Stop> {
         match ctors {
             Ctors::Absent => Ok(()),
             Ctors::All => {
@@ -119,7 +143,13 @@ impl Exporter {
         }
     }
 
-    fn module(&mut self, own: &Own, imported: &Imported, name: &ModuleAt, span: Span) -> Result<(), Stop> {
+    fn module(
+        &mut self,
+        own: &Own,
+        imported: &Imported,
+        name: &ModuleAt,
+        span: Span,
+    ) -> Result<(), Stop> {
         let lists = imported.lists_of(&name.name);
         let is_own = self.module.same(&name.name);
         if is_own {
@@ -156,7 +186,13 @@ impl Exporter {
         self.add(area, name, &module, span)
     }
 
-    fn add(&mut self, area: Area, name: &Text, module: &ModuleName, span: Span) -> Result<(), Stop> {
+    fn add(
+        &mut self,
+        area: Area,
+        name: &Text,
+        module: &ModuleName,
+        span: Span,
+    ) -> Result<(), Stop> {
         let key = Key::plain(area, name)?;
         if let Some(before) = self.names.get(&key) {
             if before.module.same(module) {
@@ -165,16 +201,28 @@ impl Exporter {
             let modules = ascending(self.alloc, &before.module, module)?;
             return Err(conflict(self.alloc, Code::ExportConflict, name, &modules, span));
         }
-        let _before = self.names.insert(key, Origin { module: module.clone()?, span })?;
+        let _before = self.names.insert(
+            key,
+            Origin {
+                module: module.clone()?,
+                span,
+            },
+        )?;
         Ok(())
     }
 
     fn into_rows(self) -> Result<Exported, Stop> {
         let Exporter { alloc, names, .. } = self;
-        let mut exported = Exported { rows: Vec::new(alloc), brought: Vec::new(alloc) };
+        let mut exported = Exported {
+            rows: Vec::new(alloc),
+            brought: Vec::new(alloc),
+        };
         for (key, origin) in names {
             if let Some(entity) = entity(key.area, &key.name)? {
-                exported.rows.push(ExportRow { entity, module: origin.module })?;
+                exported.rows.push(ExportRow {
+                    entity,
+                    module: origin.module,
+                })?;
                 exported.brought.push(origin.span)?;
             }
         }
@@ -183,7 +231,11 @@ impl Exporter {
 }
 
 /// Two modules, the lesser name first.
-fn ascending(alloc: Global, one: &ModuleName, other: &ModuleName) -> Result<Vec<ModuleName>, NoMemory> {
+fn ascending(
+    alloc: Global,
+    one: &ModuleName,
+    other: &ModuleName,
+) -> Result<Vec<ModuleName>, NoMemory> {
     let mut modules = Vec::new(alloc);
     if one < other {
         modules.push(one.clone()?)?;

@@ -19,13 +19,20 @@ use std::alloc::Global;
 #[cycle(exprs)]
 pub(crate) fn expr(state: &mut Resolver, tree: &ExprTree) -> Result<ExprTree, Stop> {
     match tree {
-        ExprTree::Chain { .. } | ExprTree::Operation { .. } | ExprTree::Ticks { .. } => operators(state, tree),
-        ExprTree::Typed { .. } | ExprTree::Negate { .. } | ExprTree::Call { .. } => applied(state, tree),
+        ExprTree::Chain { .. } | ExprTree::Operation { .. } | ExprTree::Ticks { .. } => operators(
+            state, tree,
+        ),
+        ExprTree::Typed { .. } | ExprTree::Negate { .. } | ExprTree::Call { .. } => applied(
+            state, tree,
+        ),
         ExprTree::Lambda { .. } | ExprTree::If { .. } | ExprTree::Case { .. } => form(state, tree),
         ExprTree::Let { .. } | ExprTree::Do { .. } | ExprTree::Ado { .. } => block(state, tree),
-        ExprTree::Access { .. } | ExprTree::Update { .. } | ExprTree::Paren { .. } => part(state, tree),
+        ExprTree::Access { .. } | ExprTree::Update { .. } | ExprTree::Paren { .. } => part(
+            state, tree,
+        ),
         ExprTree::Array { .. } | ExprTree::XRecord { .. } => brackets(state, tree),
-        ExprTree::Variable { .. } | ExprTree::Constructor { .. } | ExprTree::Operator { .. } => name(state, tree),
+        ExprTree::Variable { .. } | ExprTree::Constructor { .. } | ExprTree::Operator { .. } =>
+            name(state, tree),
         ExprTree::Integer { .. }
         | ExprTree::Str { .. }
         | ExprTree::Character { .. }
@@ -57,18 +64,34 @@ fn hole(span: Span) -> ExprTree {
 
 fn literal(tree: &ExprTree) -> Result<ExprTree, NoMemory> {
     match tree {
-        ExprTree::Integer { value, span } => Ok(ExprTree::Integer { value: *value, span: *span }),
-        ExprTree::Str { value, span } => Ok(ExprTree::Str { value: value.clone()?, span: *span }),
-        ExprTree::Character { value, span } => Ok(ExprTree::Character { value: *value, span: *span }),
-        ExprTree::Boolean { value, span } => Ok(ExprTree::Boolean { value: *value, span: *span }),
+        ExprTree::Integer { value, span } => Ok(ExprTree::Integer {
+            value: *value,
+            span: *span,
+        }),
+        ExprTree::Str { value, span } => Ok(ExprTree::Str {
+            value: value.clone()?,
+            span: *span,
+        }),
+        ExprTree::Character { value, span } => Ok(ExprTree::Character {
+            value: *value,
+            span: *span,
+        }),
+        ExprTree::Boolean { value, span } => Ok(ExprTree::Boolean {
+            value: *value,
+            span: *span,
+        }),
         _ => Ok(hole(tree.span())),
     }
 }
 
 fn name(state: &mut Resolver, tree: &ExprTree) -> Result<ExprTree, Stop> {
     match tree {
-        ExprTree::Variable { name } => Ok(ExprTree::Variable { name: state.value(name)? }),
-        ExprTree::Constructor { name } => Ok(ExprTree::Constructor { name: state.global(Area::Constructor, name)? }),
+        ExprTree::Variable { name } => Ok(ExprTree::Variable {
+            name: state.value(name)?,
+        }),
+        ExprTree::Constructor { name } => Ok(ExprTree::Constructor {
+            name: state.global(Area::Constructor, name)?,
+        }),
         ExprTree::Operator { name, span } => {
             let name = state.operator(Area::ValueOp, name)?;
             Ok(ExprTree::Operator { name, span: *span })
@@ -78,11 +101,20 @@ fn name(state: &mut Resolver, tree: &ExprTree) -> Result<ExprTree, Stop> {
 }
 
 /// A call of a name that is not written.
-pub(crate) fn made_call(alloc: Global, function: Mention, argument: ExprTree, span: Span) -> Result<ExprTree, NoMemory> {
+pub(crate) fn made_call(
+    alloc: Global,
+    function: Mention,
+    argument: ExprTree,
+    span: Span,
+) -> Result<ExprTree, NoMemory> {
     let function = Boxed::new(alloc, ExprTree::Variable { name: function })?;
     let mut arguments = Items::new(alloc);
     arguments.push(argument)?;
-    Ok(ExprTree::Call { function, arguments, span })
+    Ok(ExprTree::Call {
+        function,
+        arguments,
+        span,
+    })
 }
 
 #[cycle(exprs)]
@@ -91,18 +123,36 @@ fn operators(state: &mut Resolver, tree: &ExprTree) -> Result<ExprTree, Stop> {
         ExprTree::Chain { first, rest, span } => {
             let first = boxed(state, first)?;
             let rest = chain_steps(state, rest.as_slice())?;
-            Ok(ExprTree::Chain { first, rest, span: *span })
+            Ok(ExprTree::Chain {
+                first,
+                rest,
+                span: *span,
+            })
         }
-        ExprTree::Operation { op, left, right, span } => {
+        ExprTree::Operation {
+            op,
+            left,
+            right,
+            span,
+        } => {
             let left = boxed(state, left)?;
             let op = state.operator(Area::ValueOp, op)?;
             let right = boxed(state, right)?;
-            Ok(ExprTree::Operation { op, left, right, span: *span })
+            Ok(ExprTree::Operation {
+                op,
+                left,
+                right,
+                span: *span,
+            })
         }
         ExprTree::Ticks { first, rest, span } => {
             let first = boxed(state, first)?;
             let rest = tick_steps(state, rest.as_slice())?;
-            Ok(ExprTree::Ticks { first, rest, span: *span })
+            Ok(ExprTree::Ticks {
+                first,
+                rest,
+                span: *span,
+            })
         }
         _ => Ok(hole(tree.span())),
     }
@@ -134,20 +184,40 @@ fn tick_steps(state: &mut Resolver, steps: &[TickStep]) -> Result<Items<TickStep
 fn applied(state: &mut Resolver, tree: &ExprTree) -> Result<ExprTree, Stop> {
     let alloc = state.alloc;
     match tree {
-        ExprTree::Typed { value, x_type, span } => {
+        ExprTree::Typed {
+            value,
+            x_type,
+            span,
+        } => {
             let value = boxed(state, value)?;
             let x_type = Boxed::new(alloc, typ(state, x_type.get())?)?;
-            Ok(ExprTree::Typed { value, x_type, span: *span })
+            Ok(ExprTree::Typed {
+                value,
+                x_type,
+                span: *span,
+            })
         }
-        ExprTree::Negate { minus, operand, span } => {
+        ExprTree::Negate {
+            minus,
+            operand,
+            span,
+        } => {
             let function = state.made("negate", *minus)?;
             let operand = expr(state, operand.get())?;
             Ok(made_call(alloc, function, operand, *span)?)
         }
-        ExprTree::Call { function, arguments, span } => {
+        ExprTree::Call {
+            function,
+            arguments,
+            span,
+        } => {
             let function = boxed(state, function)?;
             let arguments = exprs(state, arguments.as_slice())?;
-            Ok(ExprTree::Call { function, arguments, span: *span })
+            Ok(ExprTree::Call {
+                function,
+                arguments,
+                span: *span,
+            })
         }
         _ => Ok(hole(tree.span())),
     }
@@ -156,25 +226,51 @@ fn applied(state: &mut Resolver, tree: &ExprTree) -> Result<ExprTree, Stop> {
 #[cycle(exprs)]
 fn form(state: &mut Resolver, tree: &ExprTree) -> Result<ExprTree, Stop> {
     match tree {
-        ExprTree::Lambda { binders: list, body, span } => {
+        ExprTree::Lambda {
+            binders: list,
+            body,
+            span,
+        } => {
             let mut names = Vec::new(state.alloc);
             let binders = binders(state, list.as_slice(), &mut names)?;
             let mark = state.values.mark();
             state.values.enter_all(&names)?;
             let body = boxed(state, body)?;
             state.values.leave(mark)?;
-            Ok(ExprTree::Lambda { binders, body, span: *span })
+            Ok(ExprTree::Lambda {
+                binders,
+                body,
+                span: *span,
+            })
         }
-        ExprTree::If { test, then, otherwise, span } => {
+        ExprTree::If {
+            test,
+            then,
+            otherwise,
+            span,
+        } => {
             let test = boxed(state, test)?;
             let then = boxed(state, then)?;
             let otherwise = boxed(state, otherwise)?;
-            Ok(ExprTree::If { test, then, otherwise, span: *span })
+            Ok(ExprTree::If {
+                test,
+                then,
+                otherwise,
+                span: *span,
+            })
         }
-        ExprTree::Case { scrutinees, alternatives: list, span } => {
+        ExprTree::Case {
+            scrutinees,
+            alternatives: list,
+            span,
+        } => {
             let scrutinees = exprs(state, scrutinees.as_slice())?;
             let alternatives = alternatives(state, list.as_slice())?;
-            Ok(ExprTree::Case { scrutinees, alternatives, span: *span })
+            Ok(ExprTree::Case {
+                scrutinees,
+                alternatives,
+                span: *span,
+            })
         }
         _ => Ok(hole(tree.span())),
     }
@@ -188,13 +284,20 @@ fn block(state: &mut Resolver, tree: &ExprTree) -> Result<ExprTree, Stop> {
             let binds = bind_segments(state, binds.as_slice())?;
             let body = boxed(state, body)?;
             state.values.leave(mark)?;
-            Ok(ExprTree::Let { binds, body, span: *span })
+            Ok(ExprTree::Let {
+                binds,
+                body,
+                span: *span,
+            })
         }
         ExprTree::Do { statements, span } => {
             let mark = state.values.mark();
             let statements = do_statements(state, statements.as_slice())?;
             state.values.leave(mark)?;
-            Ok(ExprTree::Do { statements, span: *span })
+            Ok(ExprTree::Do {
+                statements,
+                span: *span,
+            })
         }
         ExprTree::Ado { .. } => crate::binds::ado(state, tree),
         _ => Ok(hole(tree.span())),
@@ -204,20 +307,39 @@ fn block(state: &mut Resolver, tree: &ExprTree) -> Result<ExprTree, Stop> {
 #[cycle(exprs)]
 fn part(state: &mut Resolver, tree: &ExprTree) -> Result<ExprTree, Stop> {
     match tree {
-        ExprTree::Access { subject, labels, span } => {
+        ExprTree::Access {
+            subject,
+            labels,
+            span,
+        } => {
             let subject = boxed(state, subject)?;
             let mut list = Items::new(state.alloc);
             for one in labels.as_slice() {
                 list.push(label(one)?)?;
             }
-            Ok(ExprTree::Access { subject, labels: list, span: *span })
+            Ok(ExprTree::Access {
+                subject,
+                labels: list,
+                span: *span,
+            })
         }
-        ExprTree::Update { subject, updates, span } => {
+        ExprTree::Update {
+            subject,
+            updates,
+            span,
+        } => {
             let subject = boxed(state, subject)?;
             let updates = update_list(state, updates.as_slice())?;
-            Ok(ExprTree::Update { subject, updates, span: *span })
+            Ok(ExprTree::Update {
+                subject,
+                updates,
+                span: *span,
+            })
         }
-        ExprTree::Paren { inner, span } => Ok(ExprTree::Paren { inner: boxed(state, inner)?, span: *span }),
+        ExprTree::Paren { inner, span } => Ok(ExprTree::Paren {
+            inner: boxed(state, inner)?,
+            span: *span,
+        }),
         _ => Ok(hole(tree.span())),
     }
 }
@@ -236,10 +358,16 @@ fn update_list(state: &mut Resolver, updates: &[Update]) -> Result<Items<Update>
 #[cycle(exprs)]
 fn brackets(state: &mut Resolver, tree: &ExprTree) -> Result<ExprTree, Stop> {
     match tree {
-        ExprTree::Array { items, span } => Ok(ExprTree::Array { items: exprs(state, items.as_slice())?, span: *span }),
+        ExprTree::Array { items, span } => Ok(ExprTree::Array {
+            items: exprs(state, items.as_slice())?,
+            span: *span,
+        }),
         ExprTree::XRecord { fields, span } => {
             let fields = field_list(state, fields.as_slice())?;
-            Ok(ExprTree::XRecord { fields, span: *span })
+            Ok(ExprTree::XRecord {
+                fields,
+                span: *span,
+            })
         }
         _ => Ok(hole(tree.span())),
     }
@@ -256,14 +384,20 @@ fn field_list(state: &mut Resolver, fields: &[Field]) -> Result<Items<Field>, St
             Some(value) => boxed(state, value)?,
             None => {
                 let mention = Mention {
-                    name: Qualified { module: None, name: field.label.label.0.clone()? },
+                    name: Qualified {
+                        module: None,
+                        name: field.label.label.0.clone()?,
+                    },
                     span: field.label.span,
                 };
                 let name = state.value(&mention)?;
                 Boxed::new(alloc, ExprTree::Variable { name })?
             }
         };
-        list.push(Field { label, value: Some(value) })?;
+        list.push(Field {
+            label,
+            value: Some(value),
+        })?;
     }
     Ok(list)
 }

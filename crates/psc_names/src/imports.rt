@@ -25,7 +25,11 @@ pub(crate) struct Imported {
 
 impl Imported {
     fn new(alloc: Global) -> Imported {
-        Imported { alloc, lists: Vec::new(alloc), places: BTreeMap::new(alloc) }
+        Imported {
+            alloc,
+            lists: Vec::new(alloc),
+            places: BTreeMap::new(alloc),
+        }
     }
 
     /// The places of what an export of a module gives, if it is imported.
@@ -100,7 +104,12 @@ fn qualifier_of(import: &ImportTree) -> Result<Option<ModuleName>, NoMemory> {
     }
 }
 
-fn bring(scope: &mut Scope, class: Class, qualifier: Option<ModuleName>, rows: &[Given]) -> Result<(), NoMemory> {
+fn bring(
+    scope: &mut Scope,
+    class: Class,
+    qualifier: Option<ModuleName>,
+    rows: &[Given],
+) -> Result<(), NoMemory> {
     for row in rows {
         let key = Key::new(row.area, &row.name, &qualifier)?;
         scope.add(class, key, row.module.clone()?)?;
@@ -109,7 +118,12 @@ fn bring(scope: &mut Scope, class: Class, qualifier: Option<ModuleName>, rows: &
 }
 
 /// The names that an import takes of what its module exports.
-fn rows_of(alloc: Global, world: &World, interface: &Interface, list: &ImportList) -> Result<Vec<Given>, Stop> {
+fn rows_of(
+    alloc: Global,
+    world: &World,
+    interface: &Interface,
+    list: &ImportList,
+) -> Result<Vec<Given>, Stop> {
     match list {
         ImportList::All => copies(alloc, &interface.rows),
         ImportList::Only(refs) => listed(alloc, world, interface, refs.as_slice()),
@@ -145,8 +159,16 @@ fn others(alloc: Global, rows: &[Given], hidden: &[Given]) -> Result<Vec<Given>,
 }
 
 /// The rows that references name.
-fn listed(alloc: Global, world: &World, interface: &Interface, refs: &[Ref]) -> Result<Vec<Given>, Stop> {
-    let mut taker = Taker { alloc, taken: Vec::new(alloc) };
+fn listed(
+    alloc: Global,
+    world: &World,
+    interface: &Interface,
+    refs: &[Ref],
+) -> Result<Vec<Given>, Stop> {
+    let mut taker = Taker {
+        alloc,
+        taken: Vec::new(alloc),
+    };
     for reference in refs {
         taker.take(world, interface, reference)?;
     }
@@ -164,7 +186,12 @@ impl Taker {
         match reference {
             Ref::Value { name } => self.take_name(interface, Area::Value, &name.name.0, name.span),
             Ref::Operator { op, .. } => self.take_name(interface, Area::ValueOp, &op.op.0, op.span),
-            Ref::TypeOperator { op, .. } => self.take_name(interface, Area::TypeOp, &op.op.0, op.span),
+            Ref::TypeOperator { op, .. } => self.take_name(
+                interface,
+                Area::TypeOp,
+                &op.op.0,
+                op.span,
+            ),
             Ref::Class { name, .. } => {
                 let _types = self.take_types(world, interface, name, true)?;
                 Ok(())
@@ -176,7 +203,13 @@ impl Taker {
         }
     }
 
-    fn take_name(&mut self, interface: &Interface, area: Area, name: &Text, span: Span) -> Result<(), Stop> {
+    fn take_name(
+        &mut self,
+        interface: &Interface,
+        area: Area,
+        name: &Text,
+        span: Span,
+    ) -> Result<(), Stop> {
         let places = interface.named(area, name)?;
         if places.is_empty() {
             return Err(wrong_name(self.alloc, Code::UnknownImport, name, span));
@@ -195,12 +228,21 @@ impl Taker {
     }
 
     /// Takes the types of a name, or the classes, and tells their true names.
-    fn take_types(&mut self, world: &World, interface: &Interface, name: &UpperAt, classes: bool) -> Result<Vec<Qualified>, Stop> {
+    fn take_types(
+        &mut self,
+        world: &World,
+        interface: &Interface,
+        name: &UpperAt,
+        classes: bool,
+    ) -> Result<Vec<Qualified>, Stop> {
         let mut types = Vec::new(self.alloc);
         for place in interface.named(Area::XType, &name.name)? {
             if let Some(row) = interface.rows.get(*place) {
                 if world.is_class(row)? == classes {
-                    types.push(Qualified { module: Some(row.module.clone()?), name: row.name.clone()? })?;
+                    types.push(Qualified {
+                        module: Some(row.module.clone()?),
+                        name: row.name.clone()?,
+                    })?;
                     self.taken.push(row.copy()?)?;
                 }
             }
@@ -211,7 +253,13 @@ impl Taker {
         Ok(types)
     }
 
-    fn take_constructors(&mut self, world: &World, interface: &Interface, types: &[Qualified], ctors: &Ctors) -> Result<(), Stop> {
+    fn take_constructors(
+        &mut self,
+        world: &World,
+        interface: &Interface,
+        types: &[Qualified],
+        ctors: &Ctors,
+    ) -> Result<(), Stop> {
         match ctors {
             Ctors::Absent => Ok(()),
             Ctors::All => {
@@ -229,7 +277,13 @@ impl Taker {
         }
     }
 
-    fn take_constructor(&mut self, world: &World, interface: &Interface, types: &[Qualified], name: &UpperAt) -> Result<(), Stop> {
+    fn take_constructor(
+        &mut self,
+        world: &World,
+        interface: &Interface,
+        types: &[Qualified],
+        name: &UpperAt,
+    ) -> Result<(), Stop> {
         let before = self.taken.len();
         for place in interface.named(Area::Constructor, &name.name)? {
             if let Some(row) = interface.rows.get(*place) {

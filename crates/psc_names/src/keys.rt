@@ -36,7 +36,11 @@ pub(crate) struct Key {
 }
 
 impl Key {
-    pub(crate) fn new(area: Area, name: &Text, qualifier: &Option<ModuleName>) -> Result<Key, NoMemory> {
+    pub(crate) fn new(
+        area: Area,
+        name: &Text,
+        qualifier: &Option<ModuleName>,
+    ) -> Result<Key, NoMemory> {
         Ok(Key {
             area,
             name: name.clone()?,

@@ -14,7 +14,10 @@ pub(crate) struct Locals {
 
 impl Locals {
     pub(crate) fn new(alloc: Global) -> Locals {
-        Locals { counts: BTreeMap::new(alloc), names: Vec::new(alloc) }
+        Locals {
+            counts: BTreeMap::new(alloc),
+            names: Vec::new(alloc),
+        }
     }
 
     /// How many names are bound, which tells later how far to leave.

@@ -106,8 +106,16 @@ impl Own {
             Decl::Class(class) => self.class(class),
             Decl::Instance(instance) => self.instance(instance),
             Decl::Fixity(fixity) => self.declare(area_of(fixity), &fixity.op.op.0, fixity.span),
-            Decl::Sig(sig) => self.unless(is_value(next, &sig.name.name.0), &sig.name.name.0, sig.span),
-            Decl::KindSig { of, name, span, .. } => self.unless(is_type(next, *of, &name.name), &name.name, *span),
+            Decl::Sig(sig) => self.unless(
+                is_value(next, &sig.name.name.0),
+                &sig.name.name.0,
+                sig.span,
+            ),
+            Decl::KindSig { of, name, span, .. } => self.unless(
+                is_type(next, *of, &name.name),
+                &name.name,
+                *span,
+            ),
             Decl::Clause(_) => Ok(()),
         }
     }
@@ -133,7 +141,10 @@ impl Own {
     fn declare(&mut self, area: Area, name: &Text, span: Span) -> Result<(), Stop> {
         self.see(area, name, span)?;
         let _new = self.declared.insert(Key::plain(area, name)?)?;
-        self.names.push(OwnName { area, name: name.clone()? })?;
+        self.names.push(OwnName {
+            area,
+            name: name.clone()?,
+        })?;
         Ok(())
     }
 
@@ -142,10 +153,14 @@ impl Own {
         let mut constructors = Vec::new(self.alloc);
         for ctor in data.ctors.as_slice() {
             self.declare(Area::Constructor, &ctor.name.name, ctor.span)?;
-            let _before = self.parents.insert(ctor.name.name.clone()?, data.name.name.clone()?)?;
+            let _before = self
+                .parents
+                .insert(ctor.name.name.clone()?, data.name.name.clone()?)?;
             constructors.push(ctor.name.name.clone()?)?;
         }
-        let _before = self.constructors.insert(data.name.name.clone()?, constructors)?;
+        let _before = self
+            .constructors
+            .insert(data.name.name.clone()?, constructors)?;
         Ok(())
     }
 
@@ -201,5 +216,9 @@ impl Own {
 }
 
 fn area_of(fixity: &FixityDecl) -> Area {
-    if fixity.of_types { Area::TypeOp } else { Area::ValueOp }
+    if fixity.of_types {
+        Area::TypeOp
+    } else {
+        Area::ValueOp
+    }
 }

@@ -11,7 +11,7 @@ use crate::stop::{Stop, error_of};
 use crate::world::World;
 use psc_ast::{Decl, Fixities, Fixity, FixityDecl, Module, Side};
 use psc_error::PsError;
-use psc_externs::{Assoc, Externs, ExportRow, FixityRow, OpSpace, UseRow};
+use psc_externs::{Assoc, ExportRow, Externs, FixityRow, OpSpace, UseRow};
 use psc_items::SharedItems;
 use psc_text::{ModuleName, NoMemory, Qualified, Span, Text};
 use sqlite_items::Items;
@@ -48,7 +48,11 @@ struct Finds {
 /// Wrong with the first error of the first phase that has one: UnknownImport by the imports; DuplicateValueDeclaration and
 /// OrphanTypeDeclaration by the declarations; UnknownExport and ExportConflict by the export list; UnknownName and
 /// ScopeConflict by the mentions.
-pub fn resolve(alloc: Global, module: Module, env: &[Externs]) -> Result<Result<Resolved, PsError>, NoMemory> {
+pub fn resolve(
+    alloc: Global,
+    module: Module,
+    env: &[Externs],
+) -> Result<Result<Resolved, PsError>, NoMemory> {
     match find_all(alloc, &module, env) {
         Ok(found) => Ok(Ok(joined(alloc, module, found)?)),
         Err(Stop::NoMemory) => Err(NoMemory),
@@ -59,20 +63,59 @@ pub fn resolve(alloc: Global, module: Module, env: &[Externs]) -> Result<Result<
 fn find_all(alloc: Global, module: &Module, env: &[Externs]) -> Result<Finds, Stop> {
     let mut world = World::new(alloc, env)?;
     let mut scope = Scope::new(alloc);
-    let imported = import_all(alloc, module.imports.as_slice(), env, &mut world, &mut scope)?;
+    let imported = import_all(
+        alloc,
+        module.imports.as_slice(),
+        env,
+        &mut world,
+        &mut scope,
+    )?;
     let own = own_names(alloc, module.decls.as_slice())?;
     own.bring(&module.name.name, &mut scope)?;
     let exported = export_all(alloc, module, &own, &imported)?;
     let mut resolver = Resolver::new(alloc, scope);
     let decls = all_decls(&mut resolver, module.decls.as_slice())?;
-    let fixities = fixities_of(alloc, &world, env, &module.name.name, decls.as_slice(), &resolver.operators)?;
-    Ok(Finds { decls, fixities, uses: resolver.uses, exported })
+    let fixities = fixities_of(
+        alloc,
+        &world,
+        env,
+        &module.name.name,
+        decls.as_slice(),
+        &resolver.operators,
+    )?;
+    Ok(Finds {
+        decls,
+        fixities,
+        uses: resolver.uses,
+        exported,
+    })
 }
 
 fn joined(alloc: Global, module: Module, found: Finds) -> Result<Resolved, NoMemory> {
-    let Finds { decls, fixities, uses, exported } = found;
-    let Module { name, header, where_line, exports, imports, decls: _written, span } = module;
-    let module = Module { name, header, where_line, exports, imports, decls, span };
+    let Finds {
+        decls,
+        fixities,
+        uses,
+        exported,
+    } = found;
+    let Module {
+        name,
+        header,
+        where_line,
+        exports,
+        imports,
+        decls: _written,
+        span,
+    } = module;
+    let module = Module {
+        name,
+        header,
+        where_line,
+        exports,
+        imports,
+        decls,
+        span,
+    };
     let rows = SharedItems::from_vec(alloc, fixities)?;
     Ok(Resolved {
         module,
@@ -108,7 +151,11 @@ fn fixities_of(
 }
 
 /// The other modules whose operators are mentioned.
-fn modules_of(alloc: Global, own: &ModuleName, operators: &BTreeSet<Key>) -> Result<BTreeSet<ModuleName>, NoMemory> {
+fn modules_of(
+    alloc: Global,
+    own: &ModuleName,
+    operators: &BTreeSet<Key>,
+) -> Result<BTreeSet<ModuleName>, NoMemory> {
     let mut modules = BTreeSet::new(alloc);
     for key in operators.iter() {
         if let Some(module) = &key.qualifier {
@@ -122,7 +169,10 @@ fn modules_of(alloc: Global, own: &ModuleName, operators: &BTreeSet<Key>) -> Res
 
 /// The true name of an operator.
 fn true_name(module: &ModuleName, op: &Text) -> Result<Qualified, NoMemory> {
-    Ok(Qualified { module: Some(module.clone()?), name: op.clone()? })
+    Ok(Qualified {
+        module: Some(module.clone()?),
+        name: op.clone()?,
+    })
 }
 
 fn add_own(rows: &mut Vec<Fixity>, own: &ModuleName, fixity: &FixityDecl) -> Result<(), NoMemory> {
@@ -143,8 +193,16 @@ fn add_foreign(
     operators: &BTreeSet<Key>,
 ) -> Result<(), NoMemory> {
     let of_types = matches!(row.space, OpSpace::TypeOp);
-    let area = if of_types { Area::TypeOp } else { Area::ValueOp };
-    let key = Key { area, name: row.op.0.clone()?, qualifier: Some(module.clone()?) };
+    let area = if of_types {
+        Area::TypeOp
+    } else {
+        Area::ValueOp
+    };
+    let key = Key {
+        area,
+        name: row.op.0.clone()?,
+        qualifier: Some(module.clone()?),
+    };
     if operators.contains(&key) {
         rows.push(Fixity {
             op: true_name(module, &row.op.0)?,

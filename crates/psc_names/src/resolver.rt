@@ -38,7 +38,10 @@ impl Resolver {
 
     /// The module that declares what a mention names.
     fn module_of(&self, area: Area, mention: &Mention) -> Result<ModuleName, Stop> {
-        match self.scope.find(area, &mention.name.name, &mention.name.module)? {
+        match self
+            .scope
+            .find(area, &mention.name.name, &mention.name.module)?
+        {
             Found::One(module) => Ok(module),
             Found::Nothing => {
                 let name = written(self.alloc, &mention.name)?;
@@ -46,7 +49,13 @@ impl Resolver {
             }
             Found::Several(modules) => {
                 let name = written(self.alloc, &mention.name)?;
-                Err(conflict(self.alloc, Code::ScopeConflict, &name, &modules, mention.span))
+                Err(conflict(
+                    self.alloc,
+                    Code::ScopeConflict,
+                    &name,
+                    &modules,
+                    mention.span,
+                ))
             }
         }
     }
@@ -55,10 +64,17 @@ impl Resolver {
     pub(crate) fn global(&mut self, area: Area, mention: &Mention) -> Result<Mention, Stop> {
         let module = self.module_of(area, mention)?;
         if let Some(entity) = entity(area, &mention.name.name)? {
-            self.uses.push(UseRow { module: module.clone()?, entity, span: mention.span })?;
+            self.uses.push(UseRow {
+                module: module.clone()?,
+                entity,
+                span: mention.span,
+            })?;
         }
         Ok(Mention {
-            name: Qualified { module: Some(module), name: mention.name.name.clone()? },
+            name: Qualified {
+                module: Some(module),
+                name: mention.name.name.clone()?,
+            },
             span: mention.span,
         })
     }
@@ -78,7 +94,9 @@ impl Resolver {
     /// A mention of an operator of values or of types.
     pub(crate) fn operator(&mut self, area: Area, mention: &Mention) -> Result<Mention, Stop> {
         let found = self.global(area, mention)?;
-        let _new = self.operators.insert(Key::new(area, &found.name.name, &found.name.module)?)?;
+        let _new = self
+            .operators
+            .insert(Key::new(area, &found.name.name, &found.name.module)?)?;
         Ok(found)
     }
 
@@ -94,7 +112,10 @@ impl Resolver {
     /// A value that a form mentions without its name being written.
     pub(crate) fn made(&mut self, name: &str, span: Span) -> Result<Mention, Stop> {
         let mention = Mention {
-            name: Qualified { module: None, name: Text::new(self.alloc, name)? },
+            name: Qualified {
+                module: None,
+                name: Text::new(self.alloc, name)?,
+            },
             span,
         };
         if self.is_local(&mention) {
@@ -102,7 +123,13 @@ impl Resolver {
         }
         let module = self.module_of(Area::Value, &mention)?;
         let Mention { name, span } = mention;
-        Ok(Mention { name: Qualified { module: Some(module), name: name.name }, span })
+        Ok(Mention {
+            name: Qualified {
+                module: Some(module),
+                name: name.name,
+            },
+            span,
+        })
     }
 
     /// A mention of a type variable.
@@ -123,9 +150,15 @@ pub(crate) fn is_upper(name: &Text) -> bool {
 }
 
 pub(crate) fn copy(mention: &Mention) -> Result<Mention, NoMemory> {
-    Ok(Mention { name: mention.name.clone()?, span: mention.span })
+    Ok(Mention {
+        name: mention.name.clone()?,
+        span: mention.span,
+    })
 }
 
 pub(crate) fn ident(name: &IdentAt) -> Result<IdentAt, NoMemory> {
-    Ok(IdentAt { name: name.name.clone()?, span: name.span })
+    Ok(IdentAt {
+        name: name.name.clone()?,
+        span: name.span,
+    })
 }

@@ -79,11 +79,19 @@ pub(crate) struct Scope {
 
 impl Scope {
     pub(crate) fn new(alloc: Global) -> Scope {
-        Scope { alloc, rows: BTreeMap::new(alloc) }
+        Scope {
+            alloc,
+            rows: BTreeMap::new(alloc),
+        }
     }
 
     /// Brings a name into scope.
-    pub(crate) fn add(&mut self, class: Class, key: Key, module: ModuleName) -> Result<(), NoMemory> {
+    pub(crate) fn add(
+        &mut self,
+        class: Class,
+        key: Key,
+        module: ModuleName,
+    ) -> Result<(), NoMemory> {
         if let Some(candidates) = self.rows.get_mut(&key) {
             return candidates.add(class, module);
         }
@@ -94,7 +102,12 @@ impl Scope {
     }
 
     /// What a written name stands for.
-    pub(crate) fn find(&self, area: Area, name: &Text, qualifier: &Option<ModuleName>) -> Result<Found, NoMemory> {
+    pub(crate) fn find(
+        &self,
+        area: Area,
+        name: &Text,
+        qualifier: &Option<ModuleName>,
+    ) -> Result<Found, NoMemory> {
         let key = Key::new(area, name, qualifier)?;
         match self.rows.get(&key) {
             Some(candidates) => found(self.alloc, candidates.first()),

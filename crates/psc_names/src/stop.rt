@@ -65,7 +65,11 @@ pub(crate) fn conflict(
     }
 }
 
-fn conflict_parts(alloc: Global, name: &Text, modules: &[ModuleName]) -> Result<Vec<Text>, NoMemory> {
+fn conflict_parts(
+    alloc: Global,
+    name: &Text,
+    modules: &[ModuleName],
+) -> Result<Vec<Text>, NoMemory> {
     let mut parts = one_part(alloc, name)?;
     for module in modules {
         parts.push(module.text().clone()?)?;
@@ -74,7 +78,11 @@ fn conflict_parts(alloc: Global, name: &Text, modules: &[ModuleName]) -> Result<
 }
 
 /// The error of a module.
-pub(crate) fn error_of(alloc: Global, module: &ModuleName, problem: Problem) -> Result<PsError, NoMemory> {
+pub(crate) fn error_of(
+    alloc: Global,
+    module: &ModuleName,
+    problem: Problem,
+) -> Result<PsError, NoMemory> {
     let Problem { code, span, parts } = problem;
     Ok(PsError {
         code,

@@ -3,7 +3,9 @@
 use crate::keys::Area;
 use crate::resolver::{Resolver, ident};
 use crate::stop::Stop;
-use psc_ast::{Constr, KindTree, LabelAt, RowField, RowTree, Sig, TypePrefix, TypeStep, TypeTree, TypeVar};
+use psc_ast::{
+    Constr, KindTree, LabelAt, RowField, RowTree, Sig, TypePrefix, TypeStep, TypeTree, TypeVar,
+};
 use psc_text::{NoMemory, Text};
 use sqlite_items::{Boxed, Items};
 use std::alloc::Global;
@@ -14,18 +16,42 @@ pub(crate) fn typ(state: &mut Resolver, tree: &TypeTree) -> Result<TypeTree, Sto
     match tree {
         TypeTree::Prefixed { .. } => prefixed(state, tree),
         TypeTree::Chain { .. } | TypeTree::Operation { .. } => operators(state, tree),
-        TypeTree::Application { function, arguments, span } => {
+        TypeTree::Application {
+            function,
+            arguments,
+            span,
+        } => {
             let function = boxed(state, function)?;
             let arguments = typs(state, arguments.as_slice())?;
-            Ok(TypeTree::Application { function, arguments, span: *span })
+            Ok(TypeTree::Application {
+                function,
+                arguments,
+                span: *span,
+            })
         }
-        TypeTree::Variable { name } => Ok(TypeTree::Variable { name: state.type_var(name)? }),
-        TypeTree::Constructor { name } => Ok(TypeTree::Constructor { name: state.global(Area::XType, name)? }),
+        TypeTree::Variable { name } => Ok(TypeTree::Variable {
+            name: state.type_var(name)?,
+        }),
+        TypeTree::Constructor { name } => Ok(TypeTree::Constructor {
+            name: state.global(Area::XType, name)?,
+        }),
         TypeTree::Function { span } => Ok(TypeTree::Function { span: *span }),
-        TypeTree::Str { value, span } => Ok(TypeTree::Str { value: value.clone()?, span: *span }),
-        TypeTree::Paren { inner, span } => Ok(TypeTree::Paren { inner: boxed(state, inner)?, span: *span }),
-        TypeTree::Row { row: fields, span } => Ok(TypeTree::Row { row: row(state, fields)?, span: *span }),
-        TypeTree::XRecord { row: fields, span } => Ok(TypeTree::XRecord { row: row(state, fields)?, span: *span }),
+        TypeTree::Str { value, span } => Ok(TypeTree::Str {
+            value: value.clone()?,
+            span: *span,
+        }),
+        TypeTree::Paren { inner, span } => Ok(TypeTree::Paren {
+            inner: boxed(state, inner)?,
+            span: *span,
+        }),
+        TypeTree::Row { row: fields, span } => Ok(TypeTree::Row {
+            row: row(state, fields)?,
+            span: *span,
+        }),
+        TypeTree::XRecord { row: fields, span } => Ok(TypeTree::XRecord {
+            row: row(state, fields)?,
+            span: *span,
+        }),
     }
 }
 
@@ -51,13 +77,27 @@ fn operators(state: &mut Resolver, tree: &TypeTree) -> Result<TypeTree, Stop> {
         TypeTree::Chain { first, rest, span } => {
             let first = boxed(state, first)?;
             let rest = steps(state, rest.as_slice())?;
-            Ok(TypeTree::Chain { first, rest, span: *span })
+            Ok(TypeTree::Chain {
+                first,
+                rest,
+                span: *span,
+            })
         }
-        TypeTree::Operation { op, left, right, span } => {
+        TypeTree::Operation {
+            op,
+            left,
+            right,
+            span,
+        } => {
             let left = boxed(state, left)?;
             let op = state.operator(Area::TypeOp, op)?;
             let right = boxed(state, right)?;
-            Ok(TypeTree::Operation { op, left, right, span: *span })
+            Ok(TypeTree::Operation {
+                op,
+                left,
+                right,
+                span: *span,
+            })
         }
         _ => Ok(TypeTree::Function { span: tree.span() }),
     }
@@ -77,12 +117,20 @@ fn steps(state: &mut Resolver, steps: &[TypeStep]) -> Result<Items<TypeStep>, St
 #[cycle(types)]
 fn prefixed(state: &mut Resolver, tree: &TypeTree) -> Result<TypeTree, Stop> {
     match tree {
-        TypeTree::Prefixed { prefixes, result, span } => {
+        TypeTree::Prefixed {
+            prefixes,
+            result,
+            span,
+        } => {
             let mark = state.type_vars.mark();
             let prefixes = prefix_list(state, prefixes.as_slice())?;
             let result = boxed(state, result)?;
             state.type_vars.leave(mark)?;
-            Ok(TypeTree::Prefixed { prefixes, result, span: *span })
+            Ok(TypeTree::Prefixed {
+                prefixes,
+                result,
+                span: *span,
+            })
         }
         _ => Ok(TypeTree::Function { span: tree.span() }),
     }
@@ -107,23 +155,36 @@ fn prefix(state: &mut Resolver, next: &TypePrefix) -> Result<TypePrefix, Stop> {
         }
         TypePrefix::Given { constraints, span } => {
             let constraints = constraint_list(state, constraints.as_slice())?;
-            Ok(TypePrefix::Given { constraints, span: *span })
+            Ok(TypePrefix::Given {
+                constraints,
+                span: *span,
+            })
         }
         TypePrefix::Argument { x_type, span } => {
             let x_type = typ(state, x_type)?;
-            Ok(TypePrefix::Argument { x_type, span: *span })
+            Ok(TypePrefix::Argument {
+                x_type,
+                span: *span,
+            })
         }
     }
 }
 
 /// Constraints with true names.
 #[cycle(types)]
-pub(crate) fn constraint_list(state: &mut Resolver, constraints: &[Constr]) -> Result<Items<Constr>, Stop> {
+pub(crate) fn constraint_list(
+    state: &mut Resolver,
+    constraints: &[Constr],
+) -> Result<Items<Constr>, Stop> {
     let mut list = Items::new(state.alloc);
     for constraint in constraints {
         let class = state.global(Area::XType, &constraint.class)?;
         let arguments = typs(state, constraint.arguments.as_slice())?;
-        list.push(Constr { class, arguments, span: constraint.span })?;
+        list.push(Constr {
+            class,
+            arguments,
+            span: constraint.span,
+        })?;
     }
     Ok(list)
 }
@@ -144,7 +205,10 @@ fn row(state: &mut Resolver, tree: &RowTree) -> Result<RowTree, Stop> {
 }
 
 pub(crate) fn label(label: &LabelAt) -> Result<LabelAt, NoMemory> {
-    Ok(LabelAt { label: label.label.clone()?, span: label.span })
+    Ok(LabelAt {
+        label: label.label.clone()?,
+        span: label.span,
+    })
 }
 
 /// Binds type variables from here on, and copies them.
@@ -163,7 +227,11 @@ fn type_var(alloc: Global, var: &TypeVar) -> Result<TypeVar, NoMemory> {
         Some(written) => Some(kind(alloc, written)?),
         None => None,
     };
-    Ok(TypeVar { name, kind, span: var.span })
+    Ok(TypeVar {
+        name,
+        kind,
+        span: var.span,
+    })
 }
 
 /// A copy of a kind, in which no names stand.
@@ -175,12 +243,20 @@ pub(crate) fn kind(alloc: Global, tree: &KindTree) -> Result<KindTree, NoMemory>
         KindTree::Symbol { span } => Ok(KindTree::Symbol { span: *span }),
         KindTree::Row { rows, of, span } => {
             let of = Boxed::new(alloc, kind(alloc, of.get())?)?;
-            Ok(KindTree::Row { rows: *rows, of, span: *span })
+            Ok(KindTree::Row {
+                rows: *rows,
+                of,
+                span: *span,
+            })
         }
         KindTree::Arrow { from, to, span } => {
             let from = kinds(alloc, from.as_slice())?;
             let to = Boxed::new(alloc, kind(alloc, to.get())?)?;
-            Ok(KindTree::Arrow { from, to, span: *span })
+            Ok(KindTree::Arrow {
+                from,
+                to,
+                span: *span,
+            })
         }
         KindTree::Paren { inner, span } => {
             let inner = Boxed::new(alloc, kind(alloc, inner.get())?)?;
@@ -202,14 +278,22 @@ fn kinds(alloc: Global, trees: &[KindTree]) -> Result<Items<KindTree>, NoMemory>
 pub(crate) fn signature(state: &mut Resolver, sig: &Sig) -> Result<Sig, Stop> {
     let name = ident(&sig.name)?;
     let x_type = typ(state, &sig.x_type)?;
-    Ok(Sig { name, x_type, span: sig.span })
+    Ok(Sig {
+        name,
+        x_type,
+        span: sig.span,
+    })
 }
 
 /// The variables of the `forall`s at the front of a signature, those right of its arrows among them.
 pub(crate) fn front_vars(tree: &TypeTree, out: &mut Vec<Text>) -> Result<(), NoMemory> {
     match tree {
         TypeTree::Paren { inner, .. } => front_vars(inner.get(), out),
-        TypeTree::Prefixed { prefixes, result, .. } => {
+        TypeTree::Prefixed {
+            prefixes,
+            result,
+            ..
+        } => {
             for prefix in prefixes.as_slice() {
                 if let TypePrefix::Forall { vars, .. } = prefix {
                     for var in vars.as_slice() {
@@ -234,7 +318,11 @@ pub(crate) fn add_vars(tree: &TypeTree, out: &mut Vec<Text>) -> Result<(), NoMem
             Ok(())
         }
         TypeTree::Paren { inner, .. } => add_vars(inner.get(), out),
-        TypeTree::Application { function, arguments, .. } => {
+        TypeTree::Application {
+            function,
+            arguments,
+            ..
+        } => {
             add_vars(function.get(), out)?;
             add_all_vars(arguments.as_slice(), out)
         }
@@ -247,7 +335,11 @@ pub(crate) fn add_vars(tree: &TypeTree, out: &mut Vec<Text>) -> Result<(), NoMem
 #[cycle(vars)]
 fn add_part_vars(tree: &TypeTree, out: &mut Vec<Text>) -> Result<(), NoMemory> {
     match tree {
-        TypeTree::Prefixed { prefixes, result, .. } => {
+        TypeTree::Prefixed {
+            prefixes,
+            result,
+            ..
+        } => {
             for prefix in prefixes.as_slice() {
                 if let TypePrefix::Argument { x_type, .. } = prefix {
                     add_vars(x_type, out)?;

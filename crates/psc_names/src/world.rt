@@ -101,7 +101,17 @@ pub(crate) struct World {
 
 /// The types of `Prim`, its kinds among them.
 const PRIM_TYPES: [&str; 11] = [
-    "Array", "Boolean", "Char", "Constraint", "Function", "Int", "Record", "Row", "String", "Symbol", "Type",
+    "Array",
+    "Boolean",
+    "Char",
+    "Constraint",
+    "Function",
+    "Int",
+    "Record",
+    "Row",
+    "String",
+    "Symbol",
+    "Type",
 ];
 
 const PRIM_CLASS: &str = "Partial";
@@ -139,7 +149,10 @@ impl World {
             interface.add(self.alloc, row)?;
         }
         let class = self.prim_row(PRIM_CLASS)?;
-        let _new = self.classes.insert(Qualified { module: Some(self.prim.clone()?), name: class.name.clone()? })?;
+        let _new = self.classes.insert(Qualified {
+            module: Some(self.prim.clone()?),
+            name: class.name.clone()?,
+        })?;
         interface.add(self.alloc, class)?;
         let _before = self.interfaces.insert(self.prim.clone()?, interface)?;
         Ok(())
@@ -180,9 +193,15 @@ impl World {
         if row.area != Area::Constructor {
             return Ok(());
         }
-        let name = Qualified { module: Some(row.module.clone()?), name: row.name.clone()? };
+        let name = Qualified {
+            module: Some(row.module.clone()?),
+            name: row.name.clone()?,
+        };
         if let Some(parent) = self.parents.get(&name) {
-            let key = Qualified { module: Some(row.module.clone()?), name: parent.clone()? };
+            let key = Qualified {
+                module: Some(row.module.clone()?),
+                name: parent.clone()?,
+            };
             let place = interface.rows.len();
             add_place(self.alloc, &mut interface.constructors, key, place)?;
         }
@@ -207,11 +226,17 @@ impl World {
         }
         if let Some(externs) = self.externs_of(env, module) {
             for row in externs.constructors.as_slice() {
-                let name = Qualified { module: Some(module.clone()?), name: row.name.text().clone()? };
+                let name = Qualified {
+                    module: Some(module.clone()?),
+                    name: row.name.text().clone()?,
+                };
                 let _before = self.parents.insert(name, row.parent.text().clone()?)?;
             }
             for row in externs.classes.as_slice() {
-                let name = Qualified { module: Some(module.clone()?), name: row.name.text().clone()? };
+                let name = Qualified {
+                    module: Some(module.clone()?),
+                    name: row.name.text().clone()?,
+                };
                 let _new = self.classes.insert(name)?;
             }
         }
@@ -220,17 +245,30 @@ impl World {
     }
 
     pub(crate) fn is_class(&self, row: &Given) -> Result<bool, NoMemory> {
-        let name = Qualified { module: Some(row.module.clone()?), name: row.name.clone()? };
+        let name = Qualified {
+            module: Some(row.module.clone()?),
+            name: row.name.clone()?,
+        };
         Ok(self.classes.contains(&name))
     }
 
     /// Whether a row is a constructor of one of the types.
-    pub(crate) fn is_constructor_of(&self, row: &Given, types: &[Qualified]) -> Result<bool, NoMemory> {
-        let name = Qualified { module: Some(row.module.clone()?), name: row.name.clone()? };
+    pub(crate) fn is_constructor_of(
+        &self,
+        row: &Given,
+        types: &[Qualified],
+    ) -> Result<bool, NoMemory> {
+        let name = Qualified {
+            module: Some(row.module.clone()?),
+            name: row.name.clone()?,
+        };
         let Some(parent) = self.parents.get(&name) else {
             return Ok(false);
         };
-        let made = Qualified { module: Some(row.module.clone()?), name: parent.clone()? };
+        let made = Qualified {
+            module: Some(row.module.clone()?),
+            name: parent.clone()?,
+        };
         Ok(types.iter().any(|x_type| x_type.same(&made)))
     }
 

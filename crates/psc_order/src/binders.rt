@@ -10,7 +10,12 @@ use sqlite_items::{Boxed, Items};
 
 /// A binder with its chains as trees.
 #[cycle(binders)]
-pub(crate) fn binder(state: &mut Bracketing, tree: BinderTree, fuel: u32, size: &mut Size) -> Result<BinderTree, NoMemory> {
+pub(crate) fn binder(
+    state: &mut Bracketing,
+    tree: BinderTree,
+    fuel: u32,
+    size: &mut Size,
+) -> Result<BinderTree, NoMemory> {
     if fuel == 0 {
         state.too_deep = true;
         return Ok(tree);
@@ -18,14 +23,32 @@ pub(crate) fn binder(state: &mut Bracketing, tree: BinderTree, fuel: u32, size: 
     let fuel = fuel - 1;
     match tree {
         BinderTree::Chain { first, rest, span } => chain(state, first, rest, span, fuel, size),
-        BinderTree::Operation { op, left, right, span } => {
+        BinderTree::Operation {
+            op,
+            left,
+            right,
+            span,
+        } => {
             let left = boxed(state, left, fuel, size)?;
             let right = boxed(state, right, fuel, size)?;
-            Ok(BinderTree::Operation { op, left, right, span })
+            Ok(BinderTree::Operation {
+                op,
+                left,
+                right,
+                span,
+            })
         }
-        BinderTree::Constructor { name, arguments, span } => {
+        BinderTree::Constructor {
+            name,
+            arguments,
+            span,
+        } => {
             let arguments = binders_behind(state, arguments, fuel, size)?;
-            Ok(BinderTree::Constructor { name, arguments, span })
+            Ok(BinderTree::Constructor {
+                name,
+                arguments,
+                span,
+            })
         }
         BinderTree::Named { names, inner, span } => {
             let mut inside = Size::NONE;
@@ -39,7 +62,11 @@ pub(crate) fn binder(state: &mut Bracketing, tree: BinderTree, fuel: u32, size: 
             *size = size.then(inside.enclosed());
             Ok(BinderTree::Paren { inner, span })
         }
-        BinderTree::Typed { inner, x_type: written, span } => typed(state, inner, written, span, fuel, size),
+        BinderTree::Typed {
+            inner,
+            x_type: written,
+            span,
+        } => typed(state, inner, written, span, fuel, size),
         BinderTree::Array { items, span } => {
             let items = binders_beside(state, items, fuel, size)?;
             Ok(BinderTree::Array { items, span })
@@ -55,7 +82,12 @@ pub(crate) fn binder(state: &mut Bracketing, tree: BinderTree, fuel: u32, size: 
 }
 
 #[cycle(binders)]
-fn boxed(state: &mut Bracketing, tree: Boxed<BinderTree>, fuel: u32, size: &mut Size) -> Result<Boxed<BinderTree>, NoMemory> {
+fn boxed(
+    state: &mut Bracketing,
+    tree: Boxed<BinderTree>,
+    fuel: u32,
+    size: &mut Size,
+) -> Result<Boxed<BinderTree>, NoMemory> {
     let alloc = state.alloc;
     let tree = binder(state, tree.into_inner(), fuel, size)?;
     Ok(Boxed::new(alloc, tree)?)
@@ -75,7 +107,11 @@ fn typed(
     let inner = boxed(state, inner, fuel, &mut inside)?;
     let written = x_type(state, written.into_inner(), fuel, &mut inside)?;
     *size = size.then(inside.enclosed());
-    Ok(BinderTree::Typed { inner, x_type: Boxed::new(alloc, written)?, span })
+    Ok(BinderTree::Typed {
+        inner,
+        x_type: Boxed::new(alloc, written)?,
+        span,
+    })
 }
 
 /// Binders behind one another, each under as many levels more as there are up to it.
@@ -160,5 +196,15 @@ fn chain(
         sizes.push(inside)?;
         mentions.push(op)?;
     }
-    tree_of(state, false, Chain { operands, sizes, mentions, span }, size)
+    tree_of(
+        state,
+        false,
+        Chain {
+            operands,
+            sizes,
+            mentions,
+            span,
+        },
+        size,
+    )
 }

@@ -24,8 +24,18 @@ impl Joins for ExprTree {
         self.span()
     }
 
-    fn operation(op: Mention, left: Boxed<ExprTree>, right: Boxed<ExprTree>, span: Span) -> ExprTree {
-        ExprTree::Operation { op, left, right, span }
+    fn operation(
+        op: Mention,
+        left: Boxed<ExprTree>,
+        right: Boxed<ExprTree>,
+        span: Span,
+    ) -> ExprTree {
+        ExprTree::Operation {
+            op,
+            left,
+            right,
+            span,
+        }
     }
 
     fn nothing(span: Span) -> ExprTree {
@@ -38,8 +48,18 @@ impl Joins for BinderTree {
         self.span()
     }
 
-    fn operation(op: Mention, left: Boxed<BinderTree>, right: Boxed<BinderTree>, span: Span) -> BinderTree {
-        BinderTree::Operation { op, left, right, span }
+    fn operation(
+        op: Mention,
+        left: Boxed<BinderTree>,
+        right: Boxed<BinderTree>,
+        span: Span,
+    ) -> BinderTree {
+        BinderTree::Operation {
+            op,
+            left,
+            right,
+            span,
+        }
     }
 
     fn nothing(span: Span) -> BinderTree {
@@ -52,8 +72,18 @@ impl Joins for TypeTree {
         self.span()
     }
 
-    fn operation(op: Mention, left: Boxed<TypeTree>, right: Boxed<TypeTree>, span: Span) -> TypeTree {
-        TypeTree::Operation { op, left, right, span }
+    fn operation(
+        op: Mention,
+        left: Boxed<TypeTree>,
+        right: Boxed<TypeTree>,
+        span: Span,
+    ) -> TypeTree {
+        TypeTree::Operation {
+            op,
+            left,
+            right,
+            span,
+        }
     }
 
     fn nothing(span: Span) -> TypeTree {
@@ -97,7 +127,12 @@ pub(crate) fn tree_of<T: Joins>(
     chain: Chain<T>,
     size: &mut Size,
 ) -> Result<T, NoMemory> {
-    let Chain { operands, sizes, mentions, span } = chain;
+    let Chain {
+        operands,
+        sizes,
+        mentions,
+        span,
+    } = chain;
     let operators = state.operators(&mentions, of_types)?;
     let row = size_of_row(&sizes);
     if row.is_too_deep() {
@@ -142,7 +177,11 @@ fn assemble<T: Joins>(
             Turn::Operand(number) => {
                 if let Some(tree) = waiting.next() {
                     let size = sizes.get(*number).copied().unwrap_or(Size::NONE);
-                    pieces.push(Piece { tree, size, operators: 0 })?;
+                    pieces.push(Piece {
+                        tree,
+                        size,
+                        operators: 0,
+                    })?;
                 }
             }
             Turn::Operator(number) => {
@@ -156,7 +195,11 @@ fn assemble<T: Joins>(
 }
 
 /// Joins the last two pieces by an operator.
-fn join_last<T: Joins>(alloc: Global, pieces: &mut Vec<Piece<T>>, target: &Mention) -> Result<(), NoMemory> {
+fn join_last<T: Joins>(
+    alloc: Global,
+    pieces: &mut Vec<Piece<T>>,
+    target: &Mention,
+) -> Result<(), NoMemory> {
     let (Some(right), Some(left)) = (pieces.pop(), pieces.pop()) else {
         return Ok(());
     };
@@ -165,10 +208,21 @@ fn join_last<T: Joins>(alloc: Global, pieces: &mut Vec<Piece<T>>, target: &Menti
     Ok(())
 }
 
-fn join<T: Joins>(alloc: Global, left: Piece<T>, right: Piece<T>, target: &Mention) -> Result<Piece<T>, NoMemory> {
+fn join<T: Joins>(
+    alloc: Global,
+    left: Piece<T>,
+    right: Piece<T>,
+    target: &Mention,
+) -> Result<Piece<T>, NoMemory> {
     let span = left.tree.place().to(right.tree.place());
-    let size = left.size.under(1).then(right.size.under(left.operators.saturating_add(1)));
-    let operators = left.operators.saturating_add(right.operators).saturating_add(1);
+    let size = left
+        .size
+        .under(1)
+        .then(right.size.under(left.operators.saturating_add(1)));
+    let operators = left
+        .operators
+        .saturating_add(right.operators)
+        .saturating_add(1);
     let op = Mention {
         name: target.name.clone()?,
         span: target.span,

@@ -12,7 +12,12 @@ use sqlite_items::{Boxed, Items};
 
 /// An expression with its chains as trees.
 #[cycle(exprs)]
-pub(crate) fn expr(state: &mut Bracketing, tree: ExprTree, fuel: u32, size: &mut Size) -> Result<ExprTree, NoMemory> {
+pub(crate) fn expr(
+    state: &mut Bracketing,
+    tree: ExprTree,
+    fuel: u32,
+    size: &mut Size,
+) -> Result<ExprTree, NoMemory> {
     if fuel == 0 {
         state.too_deep = true;
         return Ok(tree);
@@ -21,14 +26,16 @@ pub(crate) fn expr(state: &mut Bracketing, tree: ExprTree, fuel: u32, size: &mut
     match tree {
         ExprTree::Chain { first, rest, span } => chain(state, first, rest, span, fuel, size),
         ExprTree::Ticks { first, rest, span } => ticks(state, first, rest, span, fuel, size),
-        ExprTree::Operation { .. } | ExprTree::Typed { .. } | ExprTree::Negate { .. } | ExprTree::Call { .. } => {
-            applied(state, tree, fuel, size)
-        }
+        ExprTree::Operation { .. }
+        | ExprTree::Typed { .. }
+        | ExprTree::Negate { .. }
+        | ExprTree::Call { .. } => { applied(state, tree, fuel, size) }
         ExprTree::Lambda { .. } | ExprTree::If { .. } => form(state, tree, fuel, size),
-        ExprTree::Case { .. } | ExprTree::Let { .. } | ExprTree::Do { .. } | ExprTree::Ado { .. } => {
-            block(state, tree, fuel, size)
-        }
-        ExprTree::Access { .. } | ExprTree::Update { .. } | ExprTree::Paren { .. } => part(state, tree, fuel, size),
+        ExprTree::Case { .. } | ExprTree::Let { .. } | ExprTree::Do { .. } | ExprTree::Ado { .. } =>
+            { block(state, tree, fuel, size) }
+        ExprTree::Access { .. } | ExprTree::Update { .. } | ExprTree::Paren { .. } => part(
+            state, tree, fuel, size,
+        ),
         ExprTree::Array { items, span } => {
             let items = beside(state, items, fuel, size)?;
             Ok(ExprTree::Array { items, span })
@@ -49,7 +56,12 @@ pub(crate) fn expr(state: &mut Bracketing, tree: ExprTree, fuel: u32, size: &mut
 }
 
 #[cycle(exprs)]
-pub(crate) fn boxed(state: &mut Bracketing, tree: Boxed<ExprTree>, fuel: u32, size: &mut Size) -> Result<Boxed<ExprTree>, NoMemory> {
+pub(crate) fn boxed(
+    state: &mut Bracketing,
+    tree: Boxed<ExprTree>,
+    fuel: u32,
+    size: &mut Size,
+) -> Result<Boxed<ExprTree>, NoMemory> {
     let alloc = state.alloc;
     let tree = expr(state, tree.into_inner(), fuel, size)?;
     Ok(Boxed::new(alloc, tree)?)
@@ -57,7 +69,12 @@ pub(crate) fn boxed(state: &mut Bracketing, tree: Boxed<ExprTree>, fuel: u32, si
 
 /// Expressions behind one another, each under as many levels more as there are up to it.
 #[cycle(exprs)]
-fn behind(state: &mut Bracketing, list: Items<ExprTree>, fuel: u32, size: &mut Size) -> Result<Items<ExprTree>, NoMemory> {
+fn behind(
+    state: &mut Bracketing,
+    list: Items<ExprTree>,
+    fuel: u32,
+    size: &mut Size,
+) -> Result<Items<ExprTree>, NoMemory> {
     let mut done = Items::new(state.alloc);
     for next in in_order(state.alloc, list)? {
         let mut inside = Size::NONE;
@@ -70,7 +87,12 @@ fn behind(state: &mut Bracketing, list: Items<ExprTree>, fuel: u32, size: &mut S
 
 /// Expressions in brackets with commas between them.
 #[cycle(exprs)]
-fn beside(state: &mut Bracketing, list: Items<ExprTree>, fuel: u32, size: &mut Size) -> Result<Items<ExprTree>, NoMemory> {
+fn beside(
+    state: &mut Bracketing,
+    list: Items<ExprTree>,
+    fuel: u32,
+    size: &mut Size,
+) -> Result<Items<ExprTree>, NoMemory> {
     let mut done = Items::new(state.alloc);
     let mut all = Size::NONE;
     for next in in_order(state.alloc, list)? {
@@ -104,7 +126,17 @@ fn chain(
         sizes.push(inside)?;
         mentions.push(op)?;
     }
-    tree_of(state, false, Chain { operands, sizes, mentions, span }, size)
+    tree_of(
+        state,
+        false,
+        Chain {
+            operands,
+            sizes,
+            mentions,
+            span,
+        },
+        size,
+    )
 }
 
 /// Names in backticks, each of which is an operator node.
@@ -125,66 +157,145 @@ fn ticks(
         done.push(TickStep { name, operand })?;
         *size = size.then(inside.under(levels(done.len())));
     }
-    Ok(ExprTree::Ticks { first, rest: done, span })
+    Ok(ExprTree::Ticks {
+        first,
+        rest: done,
+        span,
+    })
 }
 
 #[cycle(exprs)]
-fn applied(state: &mut Bracketing, tree: ExprTree, fuel: u32, size: &mut Size) -> Result<ExprTree, NoMemory> {
+fn applied(
+    state: &mut Bracketing,
+    tree: ExprTree,
+    fuel: u32,
+    size: &mut Size,
+) -> Result<ExprTree, NoMemory> {
     let alloc = state.alloc;
     match tree {
-        ExprTree::Operation { op, left, right, span } => {
+        ExprTree::Operation {
+            op,
+            left,
+            right,
+            span,
+        } => {
             let left = boxed(state, left, fuel, size)?;
             let right = boxed(state, right, fuel, size)?;
-            Ok(ExprTree::Operation { op, left, right, span })
+            Ok(ExprTree::Operation {
+                op,
+                left,
+                right,
+                span,
+            })
         }
-        ExprTree::Typed { value, x_type: written, span } => {
+        ExprTree::Typed {
+            value,
+            x_type: written,
+            span,
+        } => {
             let value = boxed(state, value, fuel, size)?;
             let written = x_type(state, written.into_inner(), FUEL, size)?;
-            Ok(ExprTree::Typed { value, x_type: Boxed::new(alloc, written)?, span })
+            Ok(ExprTree::Typed {
+                value,
+                x_type: Boxed::new(alloc, written)?,
+                span,
+            })
         }
-        ExprTree::Negate { minus, operand, span } => {
+        ExprTree::Negate {
+            minus,
+            operand,
+            span,
+        } => {
             let operand = boxed(state, operand, fuel, size)?;
-            Ok(ExprTree::Negate { minus, operand, span })
+            Ok(ExprTree::Negate {
+                minus,
+                operand,
+                span,
+            })
         }
-        ExprTree::Call { function, arguments, span } => {
+        ExprTree::Call {
+            function,
+            arguments,
+            span,
+        } => {
             let function = boxed(state, function, fuel, size)?;
             let arguments = behind(state, arguments, fuel, size)?;
-            Ok(ExprTree::Call { function, arguments, span })
+            Ok(ExprTree::Call {
+                function,
+                arguments,
+                span,
+            })
         }
         other => Ok(other),
     }
 }
 
 #[cycle(exprs)]
-fn form(state: &mut Bracketing, tree: ExprTree, fuel: u32, size: &mut Size) -> Result<ExprTree, NoMemory> {
+fn form(
+    state: &mut Bracketing,
+    tree: ExprTree,
+    fuel: u32,
+    size: &mut Size,
+) -> Result<ExprTree, NoMemory> {
     *size = size.then(Size::NONE.reaching());
     match tree {
-        ExprTree::Lambda { binders, body, span } => {
+        ExprTree::Lambda {
+            binders,
+            body,
+            span,
+        } => {
             let binders = binders_behind(state, binders, FUEL, size)?;
             let body = boxed(state, body, fuel, size)?;
-            Ok(ExprTree::Lambda { binders, body, span })
+            Ok(ExprTree::Lambda {
+                binders,
+                body,
+                span,
+            })
         }
-        ExprTree::If { test, then, otherwise, span } => {
+        ExprTree::If {
+            test,
+            then,
+            otherwise,
+            span,
+        } => {
             let test = boxed(state, test, fuel, size)?;
             let then = boxed(state, then, fuel, size)?;
             let otherwise = boxed(state, otherwise, fuel, size)?;
-            Ok(ExprTree::If { test, then, otherwise, span })
+            Ok(ExprTree::If {
+                test,
+                then,
+                otherwise,
+                span,
+            })
         }
         other => Ok(other),
     }
 }
 
 #[cycle(exprs)]
-fn block(state: &mut Bracketing, tree: ExprTree, fuel: u32, size: &mut Size) -> Result<ExprTree, NoMemory> {
+fn block(
+    state: &mut Bracketing,
+    tree: ExprTree,
+    fuel: u32,
+    size: &mut Size,
+) -> Result<ExprTree, NoMemory> {
     match tree {
-        ExprTree::Case { scrutinees, alternatives: list, span } => {
+        ExprTree::Case {
+            scrutinees,
+            alternatives: list,
+            span,
+        } => {
             *size = size.then(Size::NONE.reaching());
             let mut done = Items::new(state.alloc);
             for next in in_order(state.alloc, scrutinees)? {
                 done.push(expr(state, next, fuel, size)?)?;
             }
             let list = alternatives(state, list, fuel, size)?;
-            Ok(ExprTree::Case { scrutinees: done, alternatives: list, span })
+            Ok(ExprTree::Case {
+                scrutinees: done,
+                alternatives: list,
+                span,
+            })
         }
         ExprTree::Let { binds, body, span } => {
             *size = size.then(Size::NONE.reaching());
@@ -192,33 +303,68 @@ fn block(state: &mut Bracketing, tree: ExprTree, fuel: u32, size: &mut Size) -> 
             let body = boxed(state, body, fuel, size)?;
             Ok(ExprTree::Let { binds, body, span })
         }
-        ExprTree::Do { statements: list, span } => {
+        ExprTree::Do {
+            statements: list,
+            span,
+        } => {
             let list = statements(state, list, fuel, size)?;
-            Ok(ExprTree::Do { statements: list, span })
+            Ok(ExprTree::Do {
+                statements: list,
+                span,
+            })
         }
-        ExprTree::Ado { statements: list, result, span } => {
+        ExprTree::Ado {
+            statements: list,
+            result,
+            span,
+        } => {
             let behind = levels(list.len());
             let list = statements(state, list, fuel, size)?;
             let mut inside = Size::NONE;
             let result = boxed(state, result, fuel, &mut inside)?;
             *size = size.then(inside.under(behind));
-            Ok(ExprTree::Ado { statements: list, result, span })
+            Ok(ExprTree::Ado {
+                statements: list,
+                result,
+                span,
+            })
         }
         other => Ok(other),
     }
 }
 
 #[cycle(exprs)]
-fn part(state: &mut Bracketing, tree: ExprTree, fuel: u32, size: &mut Size) -> Result<ExprTree, NoMemory> {
+fn part(
+    state: &mut Bracketing,
+    tree: ExprTree,
+    fuel: u32,
+    size: &mut Size,
+) -> Result<ExprTree, NoMemory> {
     match tree {
-        ExprTree::Access { subject, labels, span } => {
+        ExprTree::Access {
+            subject,
+            labels,
+            span,
+        } => {
             let subject = boxed(state, subject, fuel, size)?;
-            Ok(ExprTree::Access { subject, labels, span })
+            Ok(ExprTree::Access {
+                subject,
+                labels,
+                span,
+            })
         }
-        ExprTree::Update { subject, updates, span } => {
+        ExprTree::Update {
+            subject,
+            updates,
+            span,
+        } => {
             let subject = boxed(state, subject, fuel, size)?;
             let updates = update_list(state, updates, fuel, size)?;
-            Ok(ExprTree::Update { subject, updates, span })
+            Ok(ExprTree::Update {
+                subject,
+                updates,
+                span,
+            })
         }
         ExprTree::Paren { inner, span } => {
             let mut inside = Size::NONE;
@@ -231,7 +377,12 @@ fn part(state: &mut Bracketing, tree: ExprTree, fuel: u32, size: &mut Size) -> R
 }
 
 #[cycle(exprs)]
-fn update_list(state: &mut Bracketing, updates: Items<Update>, fuel: u32, size: &mut Size) -> Result<Items<Update>, NoMemory> {
+fn update_list(
+    state: &mut Bracketing,
+    updates: Items<Update>,
+    fuel: u32,
+    size: &mut Size,
+) -> Result<Items<Update>, NoMemory> {
     let mut done = Items::new(state.alloc);
     let mut all = Size::NONE;
     for Update { label, value } in in_order(state.alloc, updates)? {
@@ -245,7 +396,13 @@ fn update_list(state: &mut Bracketing, updates: Items<Update>, fuel: u32, size: 
 }
 
 #[cycle(exprs)]
-fn record(state: &mut Bracketing, fields: Items<Field>, span: Span, fuel: u32, size: &mut Size) -> Result<ExprTree, NoMemory> {
+fn record(
+    state: &mut Bracketing,
+    fields: Items<Field>,
+    span: Span,
+    fuel: u32,
+    size: &mut Size,
+) -> Result<ExprTree, NoMemory> {
     let mut done = Items::new(state.alloc);
     let mut all = Size::NONE;
     for Field { label, value } in in_order(state.alloc, fields)? {

@@ -5,7 +5,9 @@ use crate::build::in_order;
 use crate::size::Size;
 use crate::state::{Bracketing, Refusal};
 use crate::types::{FUEL, constraint_list, kind_size, sig, type_list, var_size, x_type};
-use psc_ast::{ClassDecl, Ctor, DataDecl, Decl, Fixities, InstanceDecl, Module, SynonymDecl, TypeVar};
+use psc_ast::{
+    ClassDecl, Ctor, DataDecl, Decl, Fixities, InstanceDecl, Module, SynonymDecl, TypeVar,
+};
 use psc_error::{Code, PsError};
 use psc_items::SharedItems;
 use psc_text::{ModuleName, NoMemory, Span};
@@ -18,9 +20,21 @@ use std::alloc::Global;
 /// second of two operators that both associate to no side, with it as part; MixedAssociativityError at the second of two
 /// others, with both as parts. Wrong with TooDeep at the first declaration whose tokens lie under more than 1,000 levels, if
 /// that comes earlier.
-pub fn rebracket(alloc: Global, module: Module, fixities: &Fixities) -> Result<Result<Module, PsError>, NoMemory> {
+pub fn rebracket(
+    alloc: Global,
+    module: Module,
+    fixities: &Fixities,
+) -> Result<Result<Module, PsError>, NoMemory> {
     let mut state = Bracketing::start(alloc, fixities)?;
-    let Module { name, header, where_line, exports, imports, decls, span } = module;
+    let Module {
+        name,
+        header,
+        where_line,
+        exports,
+        imports,
+        decls,
+        span,
+    } = module;
     let mut done = Items::new(alloc);
     for decl in in_order(alloc, decls)? {
         let at = decl.span();
@@ -33,7 +47,15 @@ pub fn rebracket(alloc: Global, module: Module, fixities: &Fixities) -> Result<R
             return Ok(Err(too_deep(alloc, &name.name, at)?));
         }
     }
-    Ok(Ok(Module { name, header, where_line, exports, imports, decls: done, span }))
+    Ok(Ok(Module {
+        name,
+        header,
+        where_line,
+        exports,
+        imports,
+        decls: done,
+        span,
+    }))
 }
 
 fn refused(alloc: Global, module: &ModuleName, refusal: Refusal) -> Result<PsError, NoMemory> {
@@ -60,15 +82,28 @@ fn decl_of(state: &mut Bracketing, decl: Decl, size: &mut Size) -> Result<Decl, 
         Decl::XData(data) => Ok(Decl::XData(data_of(state, data, size)?)),
         Decl::Newtype(data) => Ok(Decl::Newtype(data_of(state, data, size)?)),
         Decl::Synonym(synonym) => Ok(Decl::Synonym(synonym_of(state, synonym, size)?)),
-        Decl::KindSig { of, name, kind, span } => {
+        Decl::KindSig {
+            of,
+            name,
+            kind,
+            span,
+        } => {
             *size = size.then(kind_size(&kind));
-            Ok(Decl::KindSig { of, name, kind, span })
+            Ok(Decl::KindSig {
+                of,
+                name,
+                kind,
+                span,
+            })
         }
         Decl::ForeignData { name, kind, span } => {
             *size = size.then(kind_size(&kind));
             Ok(Decl::ForeignData { name, kind, span })
         }
-        Decl::ForeignValue { sig: one, span } => Ok(Decl::ForeignValue { sig: sig(state, one, size)?, span }),
+        Decl::ForeignValue { sig: one, span } => Ok(Decl::ForeignValue {
+            sig: sig(state, one, size)?,
+            span,
+        }),
         Decl::Class(class) => Ok(Decl::Class(class_of(state, class, size)?)),
         Decl::Instance(instance) => Ok(Decl::Instance(instance_of(state, instance, size)?)),
         Decl::Fixity(fixity) => Ok(Decl::Fixity(fixity)),
@@ -84,7 +119,12 @@ fn vars_size(vars: &[TypeVar], size: &mut Size) {
 }
 
 fn data_of(state: &mut Bracketing, data: DataDecl, size: &mut Size) -> Result<DataDecl, NoMemory> {
-    let DataDecl { name, vars, ctors, span } = data;
+    let DataDecl {
+        name,
+        vars,
+        ctors,
+        span,
+    } = data;
     vars_size(vars.as_slice(), size);
     let mut done = Items::new(state.alloc);
     for Ctor { name, fields, span } in in_order(state.alloc, ctors)? {
@@ -93,18 +133,48 @@ fn data_of(state: &mut Bracketing, data: DataDecl, size: &mut Size) -> Result<Da
         *size = size.then(inside);
         done.push(Ctor { name, fields, span })?;
     }
-    Ok(DataDecl { name, vars, ctors: done, span })
+    Ok(DataDecl {
+        name,
+        vars,
+        ctors: done,
+        span,
+    })
 }
 
-fn synonym_of(state: &mut Bracketing, synonym: SynonymDecl, size: &mut Size) -> Result<SynonymDecl, NoMemory> {
-    let SynonymDecl { name, vars, body, span } = synonym;
+fn synonym_of(
+    state: &mut Bracketing,
+    synonym: SynonymDecl,
+    size: &mut Size,
+) -> Result<SynonymDecl, NoMemory> {
+    let SynonymDecl {
+        name,
+        vars,
+        body,
+        span,
+    } = synonym;
     vars_size(vars.as_slice(), size);
     let body = x_type(state, body, FUEL, size)?;
-    Ok(SynonymDecl { name, vars, body, span })
+    Ok(SynonymDecl {
+        name,
+        vars,
+        body,
+        span,
+    })
 }
 
-fn class_of(state: &mut Bracketing, class: ClassDecl, size: &mut Size) -> Result<ClassDecl, NoMemory> {
-    let ClassDecl { supers, name, vars, deps, members, span } = class;
+fn class_of(
+    state: &mut Bracketing,
+    class: ClassDecl,
+    size: &mut Size,
+) -> Result<ClassDecl, NoMemory> {
+    let ClassDecl {
+        supers,
+        name,
+        vars,
+        deps,
+        members,
+        span,
+    } = class;
     let supers = constraint_list(state, supers, FUEL, size)?;
     vars_size(vars.as_slice(), size);
     let mut done = Items::new(state.alloc);
@@ -115,11 +185,30 @@ fn class_of(state: &mut Bracketing, class: ClassDecl, size: &mut Size) -> Result
         all = all.beside(inside);
     }
     *size = size.then(all.enclosed());
-    Ok(ClassDecl { supers, name, vars, deps, members: done, span })
+    Ok(ClassDecl {
+        supers,
+        name,
+        vars,
+        deps,
+        members: done,
+        span,
+    })
 }
 
-fn instance_of(state: &mut Bracketing, instance: InstanceDecl, size: &mut Size) -> Result<InstanceDecl, NoMemory> {
-    let InstanceDecl { goes_on, name, context, class, arguments, members, span } = instance;
+fn instance_of(
+    state: &mut Bracketing,
+    instance: InstanceDecl,
+    size: &mut Size,
+) -> Result<InstanceDecl, NoMemory> {
+    let InstanceDecl {
+        goes_on,
+        name,
+        context,
+        class,
+        arguments,
+        members,
+        span,
+    } = instance;
     let context = constraint_list(state, context, FUEL, size)?;
     let arguments = type_list(state, arguments, size)?;
     let mut done = Items::new(state.alloc);
@@ -130,5 +219,13 @@ fn instance_of(state: &mut Bracketing, instance: InstanceDecl, size: &mut Size) 
         all = all.beside(inside);
     }
     *size = size.then(all.enclosed());
-    Ok(InstanceDecl { goes_on, name, context, class, arguments, members: done, span })
+    Ok(InstanceDecl {
+        goes_on,
+        name,
+        context,
+        class,
+        arguments,
+        members: done,
+        span,
+    })
 }

@@ -16,7 +16,10 @@ pub(crate) struct Size {
 }
 
 impl Size {
-    pub(crate) const NONE: Size = Size { deep: 0, reaches: 0 };
+    pub(crate) const NONE: Size = Size {
+        deep: 0,
+        reaches: 0,
+    };
 
     /// A form behind this one.
     pub(crate) fn then(self, next: Size) -> Size {

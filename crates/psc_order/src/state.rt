@@ -84,7 +84,11 @@ impl Bracketing {
     }
 
     /// The powers and sides of the operators of a chain.
-    pub(crate) fn operators(&self, mentions: &[Mention], of_types: bool) -> Result<Vec<Operator>, NoMemory> {
+    pub(crate) fn operators(
+        &self,
+        mentions: &[Mention],
+        of_types: bool,
+    ) -> Result<Vec<Operator>, NoMemory> {
         let mut operators = Vec::new(self.alloc);
         for mention in mentions {
             operators.push(match self.known(mention, of_types) {
@@ -96,11 +100,17 @@ impl Bracketing {
     }
 
     /// Keeps what is wrong with a chain, if it is the first of its item.
-    pub(crate) fn refuse(&mut self, mentions: &[Mention], operators: &[Operator], clash: Clash) -> Result<(), NoMemory> {
+    pub(crate) fn refuse(
+        &mut self,
+        mentions: &[Mention],
+        operators: &[Operator],
+        clash: Clash,
+    ) -> Result<(), NoMemory> {
         if self.refusal.is_some() {
             return Ok(());
         }
-        let (Some(earlier), Some(later)) = (mentions.get(clash.earlier), mentions.get(clash.later)) else {
+        let (Some(earlier), Some(later)) = (mentions.get(clash.earlier), mentions.get(clash.later))
+        else {
             return Ok(());
         };
         let mut parts = Vec::new(self.alloc);

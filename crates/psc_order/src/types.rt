@@ -12,24 +12,51 @@ pub(crate) const FUEL: u32 = 10_000;
 
 /// A type with its chains as trees.
 #[cycle(types)]
-pub(crate) fn x_type(state: &mut Bracketing, tree: TypeTree, fuel: u32, size: &mut Size) -> Result<TypeTree, NoMemory> {
+pub(crate) fn x_type(
+    state: &mut Bracketing,
+    tree: TypeTree,
+    fuel: u32,
+    size: &mut Size,
+) -> Result<TypeTree, NoMemory> {
     if fuel == 0 {
         state.too_deep = true;
         return Ok(tree);
     }
     let fuel = fuel - 1;
     match tree {
-        TypeTree::Prefixed { prefixes, result, span } => prefixed(state, prefixes, result, span, fuel, size),
+        TypeTree::Prefixed {
+            prefixes,
+            result,
+            span,
+        } => prefixed(state, prefixes, result, span, fuel, size),
         TypeTree::Chain { first, rest, span } => chain(state, first, rest, span, fuel, size),
-        TypeTree::Operation { op, left, right, span } => {
+        TypeTree::Operation {
+            op,
+            left,
+            right,
+            span,
+        } => {
             let left = boxed(state, left, fuel, size)?;
             let right = boxed(state, right, fuel, size)?;
-            Ok(TypeTree::Operation { op, left, right, span })
+            Ok(TypeTree::Operation {
+                op,
+                left,
+                right,
+                span,
+            })
         }
-        TypeTree::Application { function, arguments, span } => {
+        TypeTree::Application {
+            function,
+            arguments,
+            span,
+        } => {
             let function = boxed(state, function, fuel, size)?;
             let arguments = type_arguments(state, arguments, fuel, size)?;
-            Ok(TypeTree::Application { function, arguments, span })
+            Ok(TypeTree::Application {
+                function,
+                arguments,
+                span,
+            })
         }
         TypeTree::Paren { inner, span } => {
             let mut inside = Size::NONE;
@@ -53,7 +80,12 @@ pub(crate) fn x_type(state: &mut Bracketing, tree: TypeTree, fuel: u32, size: &m
 }
 
 #[cycle(types)]
-fn boxed(state: &mut Bracketing, tree: Boxed<TypeTree>, fuel: u32, size: &mut Size) -> Result<Boxed<TypeTree>, NoMemory> {
+fn boxed(
+    state: &mut Bracketing,
+    tree: Boxed<TypeTree>,
+    fuel: u32,
+    size: &mut Size,
+) -> Result<Boxed<TypeTree>, NoMemory> {
     let alloc = state.alloc;
     let tree = x_type(state, tree.into_inner(), fuel, size)?;
     Ok(Boxed::new(alloc, tree)?)
@@ -61,7 +93,12 @@ fn boxed(state: &mut Bracketing, tree: Boxed<TypeTree>, fuel: u32, size: &mut Si
 
 /// Types behind one another, each under as many levels more as there are up to it.
 #[cycle(types)]
-fn type_arguments(state: &mut Bracketing, arguments: Items<TypeTree>, fuel: u32, size: &mut Size) -> Result<Items<TypeTree>, NoMemory> {
+fn type_arguments(
+    state: &mut Bracketing,
+    arguments: Items<TypeTree>,
+    fuel: u32,
+    size: &mut Size,
+) -> Result<Items<TypeTree>, NoMemory> {
     let mut done = Items::new(state.alloc);
     for argument in in_order(state.alloc, arguments)? {
         let mut inside = Size::NONE;
@@ -93,7 +130,17 @@ fn chain(
         sizes.push(inside)?;
         mentions.push(op)?;
     }
-    tree_of(state, true, Chain { operands, sizes, mentions, span }, size)
+    tree_of(
+        state,
+        true,
+        Chain {
+            operands,
+            sizes,
+            mentions,
+            span,
+        },
+        size,
+    )
 }
 
 #[cycle(types)]
@@ -117,12 +164,21 @@ fn prefixed(
     let mut inside = Size::NONE;
     let result = boxed(state, result, fuel, &mut inside)?;
     *size = size.then(inside.under(depth));
-    Ok(TypeTree::Prefixed { prefixes: done, result, span })
+    Ok(TypeTree::Prefixed {
+        prefixes: done,
+        result,
+        span,
+    })
 }
 
 /// A prefix with the levels that it puts on what stands behind it.
 #[cycle(types)]
-fn prefix(state: &mut Bracketing, next: TypePrefix, fuel: u32, size: &mut Size) -> Result<(TypePrefix, u32), NoMemory> {
+fn prefix(
+    state: &mut Bracketing,
+    next: TypePrefix,
+    fuel: u32,
+    size: &mut Size,
+) -> Result<(TypePrefix, u32), NoMemory> {
     match next {
         TypePrefix::Forall { vars, span } => {
             let more = levels(vars.len());
@@ -137,9 +193,18 @@ fn prefix(state: &mut Bracketing, next: TypePrefix, fuel: u32, size: &mut Size) 
             let constraints = constraint_list(state, constraints, fuel, size)?;
             Ok((TypePrefix::Given { constraints, span }, more))
         }
-        TypePrefix::Argument { x_type: argument, span } => {
+        TypePrefix::Argument {
+            x_type: argument,
+            span,
+        } => {
             let argument = x_type(state, argument, fuel, size)?;
-            Ok((TypePrefix::Argument { x_type: argument, span }, 1))
+            Ok((
+                TypePrefix::Argument {
+                    x_type: argument,
+                    span,
+                },
+                1,
+            ))
         }
     }
 }
@@ -154,27 +219,46 @@ pub(crate) fn constraint_list(
 ) -> Result<Items<Constr>, NoMemory> {
     let mut done = Items::new(state.alloc);
     let mut all = Size::NONE;
-    for Constr { class, arguments, span } in in_order(state.alloc, constraints)? {
+    for Constr {
+        class,
+        arguments,
+        span,
+    } in in_order(state.alloc, constraints)? {
         let mut inside = Size::NONE;
         let arguments = type_arguments(state, arguments, fuel, &mut inside)?;
         all = all.beside(inside);
-        done.push(Constr { class, arguments, span })?;
+        done.push(Constr {
+            class,
+            arguments,
+            span,
+        })?;
     }
     *size = size.then(all.enclosed());
     Ok(done)
 }
 
 #[cycle(types)]
-fn row(state: &mut Bracketing, row: RowTree, fuel: u32, size: &mut Size) -> Result<RowTree, NoMemory> {
+fn row(
+    state: &mut Bracketing,
+    row: RowTree,
+    fuel: u32,
+    size: &mut Size,
+) -> Result<RowTree, NoMemory> {
     let RowTree { fields, tail } = row;
     let mut done = Items::new(state.alloc);
     let mut all = Size::NONE;
     let mut last = Size::NONE;
-    for RowField { label, x_type: field } in in_order(state.alloc, fields)? {
+    for RowField {
+        label,
+        x_type: field,
+    } in in_order(state.alloc, fields)? {
         all = all.beside(last);
         last = Size::NONE;
         let field = x_type(state, field, fuel, &mut last)?;
-        done.push(RowField { label, x_type: field })?;
+        done.push(RowField {
+            label,
+            x_type: field,
+        })?;
     }
     let tail = match tail {
         Some(tail) => Some(boxed(state, tail, fuel, &mut last)?),
@@ -186,13 +270,25 @@ fn row(state: &mut Bracketing, row: RowTree, fuel: u32, size: &mut Size) -> Resu
 
 /// A signature with its chains as trees.
 pub(crate) fn sig(state: &mut Bracketing, sig: Sig, size: &mut Size) -> Result<Sig, NoMemory> {
-    let Sig { name, x_type: written, span } = sig;
+    let Sig {
+        name,
+        x_type: written,
+        span,
+    } = sig;
     let written = x_type(state, written, FUEL, size)?;
-    Ok(Sig { name, x_type: written, span })
+    Ok(Sig {
+        name,
+        x_type: written,
+        span,
+    })
 }
 
 /// Types that stand behind one another as arguments.
-pub(crate) fn type_list(state: &mut Bracketing, types: Items<TypeTree>, size: &mut Size) -> Result<Items<TypeTree>, NoMemory> {
+pub(crate) fn type_list(
+    state: &mut Bracketing,
+    types: Items<TypeTree>,
+    size: &mut Size,
+) -> Result<Items<TypeTree>, NoMemory> {
     type_arguments(state, types, FUEL, size)
 }
 
@@ -207,7 +303,8 @@ pub(crate) fn var_size(var: &TypeVar) -> Size {
 /// The size of a kind: a level for each arrow and for each `Row`.
 pub(crate) fn kind_size(kind: &KindTree) -> Size {
     match kind {
-        KindTree::XType { .. } | KindTree::Constraint { .. } | KindTree::Symbol { .. } => Size::NONE,
+        KindTree::XType { .. } | KindTree::Constraint { .. } | KindTree::Symbol { .. } =>
+            Size::NONE,
         KindTree::Row { rows, of, .. } => kind_size(of.get()).under(*rows),
         KindTree::Arrow { from, to, .. } => {
             let mut size = Size::NONE;
