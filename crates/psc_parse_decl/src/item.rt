@@ -7,7 +7,7 @@ use crate::outside::has_outside_form;
 use crate::range::first_wide;
 use crate::refs::import;
 use crate::verdict::{Wrong, error_at, refusal, wrong_of};
-use psc_ast::{Decl, ImportTree, Module};
+use psc_ast::{Decl, ImportTree, Module, ModuleAt};
 use psc_error::{Code, PsError};
 use psc_lex::{Sign, lex_layout};
 use psc_nesting::deepest;
@@ -70,7 +70,7 @@ struct Pieces {
 }
 
 /// Whether the declaration is no instance that begins with `else`, or follows an instance of its class.
-fn goes_on_rightly(before: &[Decl], decl: &Decl) -> bool {
+fn may_go_on(before: &[Decl], decl: &Decl) -> bool {
     match decl {
         Decl::Instance(instance) if instance.goes_on => match before {
             [.., Decl::Instance(last)] => last.class.name.same(&instance.class.name),
@@ -86,7 +86,7 @@ impl Pieces {
     fn may_follow(&self, next: &Piece) -> bool {
         match next {
             Piece::Import(_) => self.decls.is_empty(),
-            Piece::Decl(decl) => goes_on_rightly(self.decls.as_slice(), decl.get()),
+            Piece::Decl(decl) => may_go_on(self.decls.as_slice(), decl.get()),
         }
     }
 
@@ -117,6 +117,7 @@ fn behind(syms: &[Sym]) -> Option<(&[Sym], Code)> {
 }
 
 /// What is wrong with the first item of a block that fails, and that item.
+#[derive(Drop)]
 pub struct Failed<'a> {
     pub wrong: Wrong,
     pub item: &'a [Sym],
@@ -157,8 +158,8 @@ fn read_body(alloc: Global, line: Line, body: &[Sym], syms: &[Sym]) -> Result<Re
     match read_pieces(alloc, body, &mut pieces) {
         Ok(()) => Ok(Ok(joined(line, pieces, syms))),
         Err(Failed { wrong, item }) => {
-            let Line { name, .. } = line;
-            Ok(Err(error_at(alloc, wrong, Some(name.name), span_of(item, &[]))?))
+            let Line { name: ModuleAt { name, .. }, .. } = line;
+            Ok(Err(error_at(alloc, wrong, Some(name), span_of(item, &[]))?))
         }
     }
 }
