@@ -37,11 +37,21 @@ rows = [head('proof-status.md')]
 for c in crates:
     r = [l for l in S[c].get('proof-status', '').split('\n') if l.startswith('|') and not l.startswith('|--') and not l.startswith('|-') and not re.match(r'^\| *Crate', l)]
     if not r: print('no proof-status for', c)
-    rows += r
+    for l in r:
+        cells = [x.strip() for x in l.strip().strip('|').split('|')] if '`|' not in l and '\\|' not in l else None
+        if cells:
+            cells[0] = '`' + cells[0].strip('`') + '`'
+            cells[1] = {'1': 'safe', '2': 'exact', '2 (exact)': 'exact'}.get(cells[1], cells[1].replace('1, and', 'safe, and'))
+            cells += [''] * (5 - len(cells))
+            assert len(cells) == 5, (c, len(cells), l)
+            l = '| ' + ' | '.join(cells) + ' |'
+        rows.append(l)
 open(os.path.join(out, 'proof-status.md'), 'w').write('\n'.join(rows) + '\n')
 defs = [head('definitions.md')]
 for c in crates:
-    if S[c].get('definitions'): defs.append(f'## {c}\n\n' + S[c]['definitions'])
+    body = S[c].get('definitions', '')
+    if body.startswith('|') and '|---' not in body: body = '| Definition | In a sentence | File |\n|---|---|---|\n' + body
+    if body: defs.append(f'## {c}\n\n' + body)
 open(os.path.join(out, 'definitions.md'), 'w').write('\n\n'.join(defs) + '\n')
 dec = [head('DECISIONS.md')]
 TITLES = {'psc_outside': 'The outside', 'purs': 'The program', 'psc_top': 'The calls of the program', 'psc_text': 'Texts', 'psc_core': 'The core', 'psc_corefn': 'The CoreFn text', 'psc_lex': 'Tokens and blocks', 'psc_ast': 'The tree as written', 'psc_parse_decl': 'Modules and errors', 'psc_type': 'Types', 'psc_externs': 'Interface files', 'psc_unify': 'The solver', 'psc_groups': 'Groups', 'psc_brackets': 'Chains of operators', 'psc_js': 'JavaScript'}
