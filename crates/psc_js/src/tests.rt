@@ -1,7 +1,5 @@
 //! The JavaScript text of trees, whole, against texts that were written by hand.
 
-mod alternatives;
-mod forms;
 mod modules;
+mod notation;
 mod texts;
-mod trees;
