@@ -1,6 +1,6 @@
 //! Expressions.
 
-ghost use Rattle.std.specs.Prelude.{◌≡◌, ◌++◌, IfOk, map};
+ghost use Rattle.std.specs.Prelude.{◌≡◌, ◌++◌, IfOk, map, true, false};
 ghost use Rattle.std.specs.String.{string_bytes};
 ghost use Rattle.psc_js.specs.Expr as spec;
 ghost use Rattle.psc_js.specs.Literal.{separated, joined};
@@ -386,9 +386,9 @@ fn put_alternative(
     put_alternative_parts(
         alloc,
         out,
+        &alternative.outcome,
         alternative.tests.as_slice(),
         alternative.variables.as_slice(),
-        &alternative.outcome,
     )
 }
 
@@ -396,9 +396,9 @@ fn put_alternative(
 fn put_alternative_parts(
     alloc: Global,
     out: &mut String,
+    outcome: &JsOutcome,
     tests: &[JsTest],
     variables: &[JsPlaced],
-    outcome: &JsOutcome,
 ) -> Result<(), NoMemory>
     ensures { IfOk result (λ _. string_bytes out.new ≡ string_bytes out.old ++ spec.alternative_parts tests.now variables.now (spec.outcome outcome.now)) }
 {

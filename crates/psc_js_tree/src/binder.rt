@@ -67,8 +67,8 @@ fn add_test(tests: &mut Items<JsTest>, test: JsTest) -> Result<(), NoMemory>
 #[cycle(tests)]
 pub(crate) fn add_tests(
     alloc: Global,
-    place: &Shared<JsPlace>,
     binder: &CoreBinder,
+    place: &Shared<JsPlace>,
     tests: &mut Items<JsTest>,
 ) -> Result<(), NoMemory>
     ensures { IfOk result (λ _. tests.new ≡ tests.old ++ spec.tests binder.now place.now) }
@@ -76,7 +76,7 @@ pub(crate) fn add_tests(
     match binder {
         CoreBinder::Null { ann: _ } => Ok(()),
         CoreBinder::Var { ann: _, name: _ } => Ok(()),
-        CoreBinder::Literal { ann: _, value } => add_literal_tests(alloc, place, value, tests),
+        CoreBinder::Literal { ann: _, value } => add_literal_tests(alloc, value, place, tests),
         CoreBinder::Constructor {
             ann,
             type_name: _,
@@ -86,10 +86,10 @@ pub(crate) fn add_tests(
             let name = &constructor_name.name;
             add_data_tests(
                 alloc,
-                place,
                 is_newtype(ann),
                 name,
                 binders.as_slice(),
+                place,
                 tests,
             )
         }
@@ -97,15 +97,15 @@ pub(crate) fn add_tests(
             ann: _,
             name: _,
             binder,
-        } => add_tests(alloc, place, binder.get(), tests),
+        } => add_tests(alloc, binder.get(), place, tests),
     }
 }
 
 #[cycle(tests)]
 fn add_literal_tests(
     alloc: Global,
-    place: &Shared<JsPlace>,
     literal: &BinderLiteral,
+    place: &Shared<JsPlace>,
     tests: &mut Items<JsTest>,
 ) -> Result<(), NoMemory>
     ensures { IfOk result (λ _. tests.new ≡ tests.old ++ spec.literal_tests literal.now place.now) }
@@ -132,9 +132,9 @@ fn add_literal_tests(
             add_test(tests, JsTest::IsTruth { place, truth })
         }
         BinderLiteral::Array(binders) => {
-            add_array_tests(alloc, place, binders.as_slice(), tests)
+            add_array_tests(alloc, binders.as_slice(), place, tests)
         }
-        BinderLiteral::Object(fields) => { add_field_tests(alloc, place, fields.as_slice(), tests) }
+        BinderLiteral::Object(fields) => { add_field_tests(alloc, fields.as_slice(), place, tests) }
     }
 }
 
@@ -142,21 +142,21 @@ fn add_literal_tests(
 #[tactic(auto, unfolding(crate::specs::Binder::data_tests))]
 fn add_data_tests(
     alloc: Global,
-    place: &Shared<JsPlace>,
     newtype: bool,
     name: &Text,
     binders: &[CoreBinder],
+    place: &Shared<JsPlace>,
     tests: &mut Items<JsTest>,
 ) -> Result<(), NoMemory>
     ensures { IfOk result (λ _. tests.new ≡ tests.old ++ spec.data_tests newtype name.now (map spec.tests binders.now) place.now) }
 {
     if newtype {
-        add_tests_here(alloc, place, binders, tests)
+        add_tests_here(alloc, binders, place, tests)
     } else {
         let at = place.clone()?;
         let name = name.clone()?;
         add_test(tests, JsTest::IsMadeBy { place: at, name })?;
-        add_part_tests(alloc, place, binders, tests)
+        add_part_tests(alloc, binders, place, tests)
     }
 }
 
@@ -164,14 +164,14 @@ fn add_data_tests(
 #[tactic(auto, unfolding(crate::specs::Binder::here))]
 fn add_tests_here(
     alloc: Global,
-    place: &Shared<JsPlace>,
     binders: &[CoreBinder],
+    place: &Shared<JsPlace>,
     tests: &mut Items<JsTest>,
 ) -> Result<(), NoMemory>
     ensures { IfOk result (λ _. tests.new ≡ tests.old ++ spec.here (map spec.tests binders.now) place.now) }
 {
     for binder in binders {
-        add_tests(alloc, place, binder, tests)?;
+        add_tests(alloc, binder, place, tests)?;
     }
     Ok(())
 }
@@ -180,14 +180,14 @@ fn add_tests_here(
 #[tactic(auto, unfolding(crate::specs::Binder::parts_from))]
 fn add_part_tests(
     alloc: Global,
-    place: &Shared<JsPlace>,
     binders: &[CoreBinder],
+    place: &Shared<JsPlace>,
     tests: &mut Items<JsTest>,
 ) -> Result<(), NoMemory>
     ensures { IfOk result (λ _. tests.new ≡ tests.old ++ spec.parts_from 0 (map spec.tests binders.now) place.now) }
 {
     for (number, binder) in binders.iter().enumerate() {
-        add_tests(alloc, &part(alloc, place, number)?, binder, tests)?;
+        add_tests(alloc, binder, &part(alloc, place, number)?, tests)?;
     }
     Ok(())
 }
@@ -196,8 +196,8 @@ fn add_part_tests(
 #[tactic(auto, unfolding(crate::specs::Binder::array_tests))]
 fn add_array_tests(
     alloc: Global,
-    place: &Shared<JsPlace>,
     binders: &[CoreBinder],
+    place: &Shared<JsPlace>,
     tests: &mut Items<JsTest>,
 ) -> Result<(), NoMemory>
     ensures { IfOk result (λ _. tests.new ≡ tests.old ++ spec.array_tests (map spec.tests binders.now) place.now) }
@@ -205,21 +205,21 @@ fn add_array_tests(
     let at = place.clone()?;
     let length = binders.len();
     add_test(tests, JsTest::HasLength { place: at, length })?;
-    add_element_tests(alloc, place, binders, tests)
+    add_element_tests(alloc, binders, place, tests)
 }
 
 #[cycle(tests)]
 #[tactic(auto, unfolding(crate::specs::Binder::elements_from))]
 fn add_element_tests(
     alloc: Global,
-    place: &Shared<JsPlace>,
     binders: &[CoreBinder],
+    place: &Shared<JsPlace>,
     tests: &mut Items<JsTest>,
 ) -> Result<(), NoMemory>
     ensures { IfOk result (λ _. tests.new ≡ tests.old ++ spec.elements_from 0 (map spec.tests binders.now) place.now) }
 {
     for (number, binder) in binders.iter().enumerate() {
-        add_tests(alloc, &element(alloc, place, number)?, binder, tests)?;
+        add_tests(alloc, binder, &element(alloc, place, number)?, tests)?;
     }
     Ok(())
 }
@@ -228,14 +228,14 @@ fn add_element_tests(
 #[tactic(auto, unfolding(crate::specs::Binder::here))]
 fn add_field_tests(
     alloc: Global,
-    place: &Shared<JsPlace>,
     fields: &[BinderField],
+    place: &Shared<JsPlace>,
     tests: &mut Items<JsTest>,
 ) -> Result<(), NoMemory>
     ensures { IfOk result (λ _. tests.new ≡ tests.old ++ spec.here (map spec.field_tests fields.now) place.now) }
 {
     for row in fields {
-        add_tests_of_field(alloc, place, row, tests)?;
+        add_tests_of_field(alloc, row, place, tests)?;
     }
     Ok(())
 }
@@ -243,13 +243,13 @@ fn add_field_tests(
 #[cycle(tests)]
 fn add_tests_of_field(
     alloc: Global,
-    place: &Shared<JsPlace>,
     row: &BinderField,
+    place: &Shared<JsPlace>,
     tests: &mut Items<JsTest>,
 ) -> Result<(), NoMemory>
     ensures { IfOk result (λ _. tests.new ≡ tests.old ++ spec.field_tests row.now place.now) }
 {
-    add_tests(alloc, &field(alloc, place, &row.label)?, &row.value, tests)
+    add_tests(alloc, &row.value, &field(alloc, place, &row.label)?, tests)
 }
 
 fn add_variable(
@@ -272,8 +272,8 @@ fn add_variable(
 pub(crate) fn add_variables(
     alloc: Global,
     home: &Home,
-    place: &Shared<JsPlace>,
     binder: &CoreBinder,
+    place: &Shared<JsPlace>,
     variables: &mut Items<JsPlaced>,
 ) -> Result<(), NoMemory>
     ensures { IfOk result (λ _. variables.new ≡ variables.old ++ spec.variables (scope home.now) binder.now place.now) }
@@ -282,7 +282,7 @@ pub(crate) fn add_variables(
         CoreBinder::Null { ann: _ } => Ok(()),
         CoreBinder::Var { ann: _, name } => add_variable(alloc, home, place, name, variables),
         CoreBinder::Literal { ann: _, value } => {
-            add_literal_variables(alloc, home, place, value, variables)
+            add_literal_variables(alloc, home, value, place, variables)
         }
         CoreBinder::Constructor {
             ann,
@@ -291,7 +291,7 @@ pub(crate) fn add_variables(
             binders,
         } => {
             let newtype = is_newtype(ann);
-            add_data_variables(alloc, home, place, newtype, binders.as_slice(), variables)
+            add_data_variables(alloc, home, newtype, binders.as_slice(), place, variables)
         }
         CoreBinder::Named {
             ann: _,
@@ -299,7 +299,7 @@ pub(crate) fn add_variables(
             binder,
         } => {
             add_variable(alloc, home, place, name, variables)?;
-            add_variables(alloc, home, place, binder.get(), variables)
+            add_variables(alloc, home, binder.get(), place, variables)
         }
     }
 }
@@ -308,8 +308,8 @@ pub(crate) fn add_variables(
 fn add_literal_variables(
     alloc: Global,
     home: &Home,
-    place: &Shared<JsPlace>,
     literal: &BinderLiteral,
+    place: &Shared<JsPlace>,
     variables: &mut Items<JsPlaced>,
 ) -> Result<(), NoMemory>
     ensures { IfOk result (λ _. variables.new ≡ variables.old ++ spec.literal_variables (scope home.now) literal.now place.now) }
@@ -320,10 +320,10 @@ fn add_literal_variables(
         BinderLiteral::Char(_) => Ok(()),
         BinderLiteral::Bool(_) => Ok(()),
         BinderLiteral::Array(binders) => {
-            add_element_variables(alloc, home, place, binders.as_slice(), variables)
+            add_element_variables(alloc, home, binders.as_slice(), place, variables)
         }
         BinderLiteral::Object(fields) => {
-            add_field_variables(alloc, home, place, fields.as_slice(), variables)
+            add_field_variables(alloc, home, fields.as_slice(), place, variables)
         }
     }
 }
@@ -333,17 +333,17 @@ fn add_literal_variables(
 fn add_data_variables(
     alloc: Global,
     home: &Home,
-    place: &Shared<JsPlace>,
     newtype: bool,
     binders: &[CoreBinder],
+    place: &Shared<JsPlace>,
     variables: &mut Items<JsPlaced>,
 ) -> Result<(), NoMemory>
     ensures { IfOk result (λ _. variables.new ≡ variables.old ++ spec.data_variables newtype (map (spec.variables (scope home.now)) binders.now) place.now) }
 {
     if newtype {
-        add_variables_here(alloc, home, place, binders, variables)
+        add_variables_here(alloc, home, binders, place, variables)
     } else {
-        add_part_variables(alloc, home, place, binders, variables)
+        add_part_variables(alloc, home, binders, place, variables)
     }
 }
 
@@ -352,14 +352,14 @@ fn add_data_variables(
 fn add_variables_here(
     alloc: Global,
     home: &Home,
-    place: &Shared<JsPlace>,
     binders: &[CoreBinder],
+    place: &Shared<JsPlace>,
     variables: &mut Items<JsPlaced>,
 ) -> Result<(), NoMemory>
     ensures { IfOk result (λ _. variables.new ≡ variables.old ++ spec.here (map (spec.variables (scope home.now)) binders.now) place.now) }
 {
     for binder in binders {
-        add_variables(alloc, home, place, binder, variables)?;
+        add_variables(alloc, home, binder, place, variables)?;
     }
     Ok(())
 }
@@ -369,14 +369,14 @@ fn add_variables_here(
 fn add_part_variables(
     alloc: Global,
     home: &Home,
-    place: &Shared<JsPlace>,
     binders: &[CoreBinder],
+    place: &Shared<JsPlace>,
     variables: &mut Items<JsPlaced>,
 ) -> Result<(), NoMemory>
     ensures { IfOk result (λ _. variables.new ≡ variables.old ++ spec.parts_from 0 (map (spec.variables (scope home.now)) binders.now) place.now) }
 {
     for (number, binder) in binders.iter().enumerate() {
-        add_variables(alloc, home, &part(alloc, place, number)?, binder, variables)?;
+        add_variables(alloc, home, binder, &part(alloc, place, number)?, variables)?;
     }
     Ok(())
 }
@@ -386,8 +386,8 @@ fn add_part_variables(
 fn add_element_variables(
     alloc: Global,
     home: &Home,
-    place: &Shared<JsPlace>,
     binders: &[CoreBinder],
+    place: &Shared<JsPlace>,
     variables: &mut Items<JsPlaced>,
 ) -> Result<(), NoMemory>
     ensures { IfOk result (λ _. variables.new ≡ variables.old ++ spec.elements_from 0 (map (spec.variables (scope home.now)) binders.now) place.now) }
@@ -396,8 +396,8 @@ fn add_element_variables(
         add_variables(
             alloc,
             home,
-            &element(alloc, place, number)?,
             binder,
+            &element(alloc, place, number)?,
             variables,
         )?;
     }
@@ -409,14 +409,14 @@ fn add_element_variables(
 fn add_field_variables(
     alloc: Global,
     home: &Home,
-    place: &Shared<JsPlace>,
     fields: &[BinderField],
+    place: &Shared<JsPlace>,
     variables: &mut Items<JsPlaced>,
 ) -> Result<(), NoMemory>
     ensures { IfOk result (λ _. variables.new ≡ variables.old ++ spec.here (map (spec.field_variables (scope home.now)) fields.now) place.now) }
 {
     for row in fields {
-        add_variables_of_field(alloc, home, place, row, variables)?;
+        add_variables_of_field(alloc, home, row, place, variables)?;
     }
     Ok(())
 }
@@ -425,12 +425,12 @@ fn add_field_variables(
 fn add_variables_of_field(
     alloc: Global,
     home: &Home,
-    place: &Shared<JsPlace>,
     row: &BinderField,
+    place: &Shared<JsPlace>,
     variables: &mut Items<JsPlaced>,
 ) -> Result<(), NoMemory>
     ensures { IfOk result (λ _. variables.new ≡ variables.old ++ spec.field_variables (scope home.now) row.now place.now) }
 {
     let place = field(alloc, place, &row.label)?;
-    add_variables(alloc, home, &place, &row.value, variables)
+    add_variables(alloc, home, &row.value, &place, variables)
 }

@@ -222,7 +222,7 @@ fn tests_of(alloc: Global, binders: &[CoreBinder]) -> Result<Items<JsTest>, NoMe
 {
     let mut tests = Items::new(alloc);
     for (number, binder) in binders.iter().enumerate() {
-        add_tests(alloc, &subject(alloc, number)?, binder, &mut tests)?;
+        add_tests(alloc, binder, &subject(alloc, number)?, &mut tests)?;
     }
     Ok(tests)
 }
