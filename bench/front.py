@@ -2,8 +2,8 @@
 """Times the front of the compiler on sources that it makes. usage: bench/front.py [MEGABYTES]
 
 Run `rt run` in crates/front_speed first: it proves and builds the program. Printed are, for ordinary source, megabytes a
-second, and for each shape the time at 1 MB and at ten times that; 12 times is the most that is wanted. All is on one core,
-by the time that the program's own process takes of it, best of three.
+second, and for each shape the time at the size given (1 MB) and at a tenth of it; 12 times is the most that is wanted. All is on
+one core, by the time that the program's own process takes of it, best of five.
 """
 import os
 import resource
@@ -39,14 +39,15 @@ SHAPES = {
     "closers without a partner": lambda n: "module M where\nx = (" + "]" * n,
     "nested do": lambda n: "module M where\nx = " + repeated("do ", n),
     "one operator chain": lambda n: "module M where\nx = a" + repeated(" + a", n),
+    "comments without an end": lambda n: "module M where\nx = " + repeated("{-", n),
     "one line comment": lambda n: "module M where\nx = a --" + "a" * n,
-    "small declarations": lambda n: "module M where\n" + repeated("x1 = 1234\n", n),
+    "small declarations": lambda n: "module M where\n" + repeated("x = 1234\n", n),
 }
 
 
 def seconds(path, phase):
     best = None
-    for _ in range(3):
+    for _ in range(5):
         before = resource.getrusage(resource.RUSAGE_CHILDREN)
         subprocess.run([PROGRAM, phase, path], check=True, stdout=subprocess.DEVNULL)
         after = resource.getrusage(resource.RUSAGE_CHILDREN)
