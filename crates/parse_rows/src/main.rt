@@ -71,7 +71,14 @@ impl Rows {
     /// Notes what a row gave where it should have given something else.
     fn differ(&mut self, got: &str, want: &str) -> Result<(), NoMemory> {
         self.differing = self.differing.saturating_add(1);
-        for part in [self.name.as_str(), "\n  got  ", got, "\n  want ", want, "\n"] {
+        for part in [
+            self.name.as_str(),
+            "\n  got  ",
+            got,
+            "\n  want ",
+            want,
+            "\n",
+        ] {
             self.report.push_str(part)?;
         }
         Ok(())
@@ -82,7 +89,11 @@ impl Rows {
         self.count = self.count.saturating_add(1);
         let outcome = parse(alloc, self.source.as_str())?;
         let got = outcome_text(alloc, outcome, places)?;
-        if got.as_str() == want { Ok(()) } else { self.differ(got.as_str(), want) }
+        if got.as_str() == want {
+            Ok(())
+        } else {
+            self.differ(got.as_str(), want)
+        }
     }
 
     fn take(&mut self, alloc: Global, line: &str) -> Result<(), NoMemory> {
@@ -110,7 +121,12 @@ fn read_rows(alloc: Global, text: &str) -> Result<String, NoMemory> {
     for line in text.lines() {
         rows.take(alloc, line)?;
     }
-    let Rows { count, differing, report, .. } = rows;
+    let Rows {
+        count,
+        differing,
+        report,
+        ..
+    } = rows;
     Ok(format!(in alloc; "{}{} rows, {} differ", report, count, differing)?)
 }
 

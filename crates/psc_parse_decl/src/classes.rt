@@ -2,7 +2,10 @@
 
 use psc_ast::{ClassDecl, Clause, Constr, Decl, Dep, IdentAt, InstanceDecl, Mention, Sig};
 use psc_lex::Sign;
-use psc_parse_base::{Fault, Next, Parsed, Sym, comes, eat, expect, goes_on, ident, lower, mention, opens_block, peek, peek_second, sees, span_of, upper};
+use psc_parse_base::{
+    Fault, Next, Parsed, Sym, comes, eat, expect, goes_on, ident, lower, mention, opens_block,
+    peek, peek_second, sees, span_of, upper,
+};
 use psc_parse_expr::one_clause;
 use psc_parse_type::{atoms, constraints, sig, variables};
 use sqlite_items::Items;
@@ -38,7 +41,14 @@ fn dep(alloc: Global, syms: &[Sym]) -> Parsed<'_, Dep> {
     if to.is_empty() {
         return Err(Fault::Grammar);
     }
-    Ok((Dep { from, to, span: span_of(syms, rest) }, rest))
+    Ok((
+        Dep {
+            from,
+            to,
+            span: span_of(syms, rest),
+        },
+        rest,
+    ))
 }
 
 /// The functional dependencies behind `|`, if that comes.
@@ -75,7 +85,11 @@ fn signatures(alloc: Global, syms: &[Sym]) -> Parsed<'_, Items<Sig>> {
         found.push(next)?;
         (more, rest) = goes_on(after)?;
     }
-    if more { Err(Fault::Grammar) } else { Ok((found, rest)) }
+    if more {
+        Err(Fault::Grammar)
+    } else {
+        Ok((found, rest))
+    }
 }
 
 /// A class.
@@ -86,7 +100,17 @@ pub fn class(alloc: Global, syms: &[Sym]) -> Parsed<'_, Decl> {
     let (deps, rest) = deps(alloc, rest)?;
     let (members, rest) = signatures(alloc, rest)?;
     let span = span_of(syms, rest);
-    Ok((Decl::Class(ClassDecl { supers, name, vars, deps, members, span }), rest))
+    Ok((
+        Decl::Class(ClassDecl {
+            supers,
+            name,
+            vars,
+            deps,
+            members,
+            span,
+        }),
+        rest,
+    ))
 }
 
 /// A member of an instance; a signature is not for this compiler.
@@ -112,7 +136,11 @@ fn members(alloc: Global, syms: &[Sym]) -> Parsed<'_, Items<Clause>> {
         found.push(next)?;
         (more, rest) = goes_on(after)?;
     }
-    if more { Err(Fault::Grammar) } else { Ok((found, rest)) }
+    if more {
+        Err(Fault::Grammar)
+    } else {
+        Ok((found, rest))
+    }
 }
 
 /// `name ::`, if it comes.
@@ -142,6 +170,14 @@ pub fn instance(alloc: Global, syms: &[Sym]) -> Parsed<'_, Decl> {
     let (arguments, rest) = atoms(alloc, rest)?;
     let (members, rest) = members(alloc, rest)?;
     let span = span_of(syms, rest);
-    let found = InstanceDecl { goes_on: is_else, name, context, class, arguments, members, span };
+    let found = InstanceDecl {
+        goes_on: is_else,
+        name,
+        context,
+        class,
+        arguments,
+        members,
+        span,
+    };
     Ok((Decl::Instance(found), rest))
 }

@@ -38,7 +38,11 @@ fn item_length(syms: &[Sym]) -> usize {
 fn cut(syms: &[Sym], at: usize) -> (&[Sym], &[Sym])
     ensures { syms.now ≡ result.0.now ++ result.1.now }
 {
-    if at <= syms.len() { syms.split_at(at) } else { (syms, &[]) }
+    if at <= syms.len() {
+        syms.split_at(at)
+    } else {
+        (syms, &[])
+    }
 }
 
 /// The module line up to its `where`, and what stands behind it.

@@ -3,7 +3,10 @@
 use crate::classes::{class, instance};
 use psc_ast::{Ctor, DataDecl, Decl, FixityDecl, KindOf, Mention, Side, SynonymDecl};
 use psc_lex::Sign;
-use psc_parse_base::{Fault, Next, Parsed, Sym, eat, expect, mention, op, peek, peek_second, peek_third, sees, span_of, upper};
+use psc_parse_base::{
+    Fault, Next, Parsed, Sym, eat, expect, mention, op, peek, peek_second, peek_third, sees,
+    span_of, upper,
+};
 use psc_parse_expr::one_clause;
 use psc_parse_type::{atoms, kind, one_atom, sig, variables, whole_type};
 use sqlite_items::Items;
@@ -12,7 +15,14 @@ use std::alloc::Global;
 fn ctor(alloc: Global, syms: &[Sym]) -> Parsed<'_, Ctor> {
     let (name, rest) = upper(syms)?;
     let (fields, rest) = atoms(alloc, rest)?;
-    Ok((Ctor { name, fields, span: span_of(syms, rest) }, rest))
+    Ok((
+        Ctor {
+            name,
+            fields,
+            span: span_of(syms, rest),
+        },
+        rest,
+    ))
 }
 
 /// The constructors behind `=`, if that comes.
@@ -38,7 +48,15 @@ fn x_data(alloc: Global, syms: &[Sym]) -> Parsed<'_, Decl> {
     let (name, rest) = upper(expect(syms, Sign::Data)?)?;
     let (vars, rest) = variables(alloc, rest)?;
     let (ctors, rest) = ctors(alloc, rest)?;
-    Ok((Decl::XData(DataDecl { name, vars, ctors, span: span_of(syms, rest) }), rest))
+    Ok((
+        Decl::XData(DataDecl {
+            name,
+            vars,
+            ctors,
+            span: span_of(syms, rest),
+        }),
+        rest,
+    ))
 }
 
 /// The constructor of a newtype and its one field.
@@ -48,7 +66,11 @@ fn wrapper(alloc: Global, syms: &[Sym]) -> Parsed<'_, Items<Ctor>> {
     let mut fields = Items::new(alloc);
     fields.push(field.into_inner())?;
     let mut found = Items::new(alloc);
-    found.push(Ctor { name, fields, span: span_of(syms, rest) })?;
+    found.push(Ctor {
+        name,
+        fields,
+        span: span_of(syms, rest),
+    })?;
     Ok((found, rest))
 }
 
@@ -56,7 +78,15 @@ fn newtype(alloc: Global, syms: &[Sym]) -> Parsed<'_, Decl> {
     let (name, rest) = upper(expect(syms, Sign::Newtype)?)?;
     let (vars, rest) = variables(alloc, rest)?;
     let (ctors, rest) = wrapper(alloc, expect(rest, Sign::Equals)?)?;
-    Ok((Decl::Newtype(DataDecl { name, vars, ctors, span: span_of(syms, rest) }), rest))
+    Ok((
+        Decl::Newtype(DataDecl {
+            name,
+            vars,
+            ctors,
+            span: span_of(syms, rest),
+        }),
+        rest,
+    ))
 }
 
 fn synonym(alloc: Global, syms: &[Sym]) -> Parsed<'_, Decl> {
@@ -64,12 +94,22 @@ fn synonym(alloc: Global, syms: &[Sym]) -> Parsed<'_, Decl> {
     let (vars, rest) = variables(alloc, rest)?;
     let (body, rest) = whole_type(alloc, expect(rest, Sign::Equals)?)?;
     let (body, span) = (body.into_inner(), span_of(syms, rest));
-    Ok((Decl::Synonym(SynonymDecl { name, vars, body, span }), rest))
+    Ok((
+        Decl::Synonym(SynonymDecl {
+            name,
+            vars,
+            body,
+            span,
+        }),
+        rest,
+    ))
 }
 
 /// The keyword of a kind signature, if one comes: the keyword, an upper name and `::`.
 fn kind_signature_of(syms: &[Sym]) -> Option<KindOf> {
-    if peek_second(syms) != Next::Token(Sign::Upper) || peek_third(syms) != Next::Token(Sign::DoubleColon) {
+    if peek_second(syms) != Next::Token(Sign::Upper)
+        || peek_third(syms) != Next::Token(Sign::DoubleColon)
+    {
         return None;
     }
     match peek(syms) {
@@ -87,14 +127,29 @@ fn kind_signature(alloc: Global, syms: &[Sym], of: KindOf) -> Parsed<'_, Decl> {
     };
     let (name, rest) = upper(rest)?;
     let (kind, rest) = kind(alloc, expect(rest, Sign::DoubleColon)?)?;
-    Ok((Decl::KindSig { of, name, kind, span: span_of(syms, rest) }, rest))
+    Ok((
+        Decl::KindSig {
+            of,
+            name,
+            kind,
+            span: span_of(syms, rest),
+        },
+        rest,
+    ))
 }
 
 /// `foreign import data T :: k`; `from` stands behind `import`.
 fn foreign_data<'a>(alloc: Global, syms: &'a [Sym], from: &'a [Sym]) -> Parsed<'a, Decl> {
     let (name, rest) = upper(expect(from, Sign::Data)?)?;
     let (kind, rest) = kind(alloc, expect(rest, Sign::DoubleColon)?)?;
-    Ok((Decl::ForeignData { name, kind, span: span_of(syms, rest) }, rest))
+    Ok((
+        Decl::ForeignData {
+            name,
+            kind,
+            span: span_of(syms, rest),
+        },
+        rest,
+    ))
 }
 
 fn foreign(alloc: Global, syms: &[Sym]) -> Parsed<'_, Decl> {
@@ -103,7 +158,13 @@ fn foreign(alloc: Global, syms: &[Sym]) -> Parsed<'_, Decl> {
         return foreign_data(alloc, syms, from);
     }
     let (sig, rest) = sig(alloc, from)?;
-    Ok((Decl::ForeignValue { sig, span: span_of(syms, rest) }, rest))
+    Ok((
+        Decl::ForeignValue {
+            sig,
+            span: span_of(syms, rest),
+        },
+        rest,
+    ))
 }
 
 fn side(syms: &[Sym]) -> Parsed<'_, Side> {
@@ -154,7 +215,17 @@ fn fixity(alloc: Global, syms: &[Sym]) -> Parsed<'_, Decl> {
     let (target, rest) = target(alloc, rest)?;
     let (op, rest) = op(expect(rest, Sign::As)?)?;
     let span = span_of(syms, rest);
-    Ok((Decl::Fixity(FixityDecl { side, power, of_types, target, op, span }), rest))
+    Ok((
+        Decl::Fixity(FixityDecl {
+            side,
+            power,
+            of_types,
+            target,
+            op,
+            span,
+        }),
+        rest,
+    ))
 }
 
 /// A signature or a clause.

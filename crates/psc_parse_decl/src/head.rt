@@ -48,7 +48,15 @@ fn module_line(alloc: Global, syms: &[Sym]) -> Parsed<'_, Line> {
     let (exports, rest) = exports(alloc, rest)?;
     let where_line = line_of(rest);
     let rest = expect(rest, Sign::Where)?;
-    Ok((Line { name, header, exports, where_line }, rest))
+    Ok((
+        Line {
+            name,
+            header,
+            exports,
+            where_line,
+        },
+        rest,
+    ))
 }
 
 /// The place of a module line that fails: its first token, or the source's start.
@@ -81,7 +89,11 @@ pub fn read_line(alloc: Global, line: &[Sym]) -> Result<Result<Line, PsError>, N
 }
 
 /// The imports with which a module begins, or the first of them that fails.
-fn leading_imports<'a>(alloc: Global, body: &'a [Sym], found: &mut Items<ImportTree>) -> Result<(), Failed<'a>> {
+fn leading_imports<'a>(
+    alloc: Global,
+    body: &'a [Sym],
+    found: &mut Items<ImportTree>,
+) -> Result<(), Failed<'a>> {
     let mut left = first_item(body);
     for _turn in 0..body.len() {
         let Left::Item(item, rest) = left else {
@@ -107,12 +119,25 @@ fn push_import(alloc: Global, item: &[Sym], found: &mut Items<ImportTree>) -> Re
 }
 
 /// The head behind the module line, or the error of the first import that fails.
-fn read_imports(alloc: Global, line: Line, body: &[Sym]) -> Result<Result<ModuleHead, PsError>, NoMemory> {
-    let Line { name, where_line, .. } = line;
+fn read_imports(
+    alloc: Global,
+    line: Line,
+    body: &[Sym],
+) -> Result<Result<ModuleHead, PsError>, NoMemory> {
+    let Line {
+        name,
+        where_line,
+        ..
+    } = line;
     let ModuleAt { name, span } = name;
     let mut imports = Items::new(alloc);
     match leading_imports(alloc, body, &mut imports) {
-        Ok(()) => Ok(Ok(ModuleHead { name, name_span: span, imports, where_line })),
+        Ok(()) => Ok(Ok(ModuleHead {
+            name,
+            name_span: span,
+            imports,
+            where_line,
+        })),
         Err(Failed { wrong, item }) => {
             Ok(Err(error_at(alloc, wrong, Some(name), span_of(item, &[]))?))
         }

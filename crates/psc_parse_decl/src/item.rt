@@ -34,7 +34,11 @@ fn decl_piece(alloc: Global, item: &[Sym]) -> Parsed<'_, Piece> {
 }
 
 fn any_piece(alloc: Global, item: &[Sym]) -> Parsed<'_, Piece> {
-    if sees(item, Sign::Import) { import_piece(alloc, item) } else { decl_piece(alloc, item) }
+    if sees(item, Sign::Import) {
+        import_piece(alloc, item)
+    } else {
+        decl_piece(alloc, item)
+    }
 }
 
 /// An item whose literals may be out of range yet.
@@ -112,7 +116,11 @@ impl Pieces {
 /// A token behind the module's block is an item by itself, and fails.
 fn behind(syms: &[Sym]) -> Option<(&[Sym], Code)> {
     let first = syms.get(..1)?;
-    let code = if has_outside_form(first) { Code::OutsideProfile } else { Code::ErrorParsingModule };
+    let code = if has_outside_form(first) {
+        Code::OutsideProfile
+    } else {
+        Code::ErrorParsingModule
+    };
     Some((first, code))
 }
 
@@ -130,7 +138,10 @@ fn read_pieces<'a>(alloc: Global, body: &'a [Sym], pieces: &mut Pieces) -> Resul
         match left {
             Left::Behind(rest) => {
                 return match behind(rest) {
-                    Some((item, code)) => Err(Failed { wrong: Wrong::Code(code), item }),
+                    Some((item, code)) => Err(Failed {
+                        wrong: Wrong::Code(code),
+                        item,
+                    }),
                     None => Ok(()),
                 };
             }
@@ -147,18 +158,42 @@ fn read_pieces<'a>(alloc: Global, body: &'a [Sym], pieces: &mut Pieces) -> Resul
 
 /// The module of a line and the items behind it; `syms` is all of its source.
 fn joined(line: Line, pieces: Pieces, syms: &[Sym]) -> Module {
-    let Line { name, header, exports, where_line } = line;
+    let Line {
+        name,
+        header,
+        exports,
+        where_line,
+    } = line;
     let Pieces { imports, decls } = pieces;
-    Module { name, header, where_line, exports, imports, decls, span: span_of(syms, &[]) }
+    Module {
+        name,
+        header,
+        where_line,
+        exports,
+        imports,
+        decls,
+        span: span_of(syms, &[]),
+    }
 }
 
 /// The module behind its line, or the error of the first item that fails.
-fn read_body(alloc: Global, line: Line, body: &[Sym], syms: &[Sym]) -> Result<Result<Module, PsError>, NoMemory> {
-    let mut pieces = Pieces { imports: Items::new(alloc), decls: Items::new(alloc) };
+fn read_body(
+    alloc: Global,
+    line: Line,
+    body: &[Sym],
+    syms: &[Sym],
+) -> Result<Result<Module, PsError>, NoMemory> {
+    let mut pieces = Pieces {
+        imports: Items::new(alloc),
+        decls: Items::new(alloc),
+    };
     match read_pieces(alloc, body, &mut pieces) {
         Ok(()) => Ok(Ok(joined(line, pieces, syms))),
         Err(Failed { wrong, item }) => {
-            let Line { name: ModuleAt { name, .. }, .. } = line;
+            let Line {
+                name: ModuleAt { name, .. },
+                ..
+            } = line;
             Ok(Err(error_at(alloc, wrong, Some(name), span_of(item, &[]))?))
         }
     }

@@ -25,18 +25,28 @@ fn digit_value(letter: char) -> Option<u32> {
 
 /// Where the next character leads from a place that is in no run of hex digits.
 fn plain_step(letter: char) -> Place {
-    if letter == '\\' { Place::Escape } else { Place::Plain }
+    if letter == '\\' {
+        Place::Escape
+    } else {
+        Place::Plain
+    }
 }
 
 fn step(place: Place, letter: char) -> Place {
     match place {
         Place::Plain => plain_step(letter),
-        Place::Escape if letter == 'x' => Place::Hex { value: 0, digits: 0 },
+        Place::Escape if letter == 'x' => Place::Hex {
+            value: 0,
+            digits: 0,
+        },
         Place::Escape => Place::Plain,
         Place::Hex { value, digits } => match digit_value(letter) {
             Some(digit) if digits < 6 => {
                 let value = value.saturating_mul(16).saturating_add(digit);
-                Place::Hex { value, digits: digits + 1 }
+                Place::Hex {
+                    value,
+                    digits: digits + 1,
+                }
             }
             _ => plain_step(letter),
         },
@@ -75,8 +85,10 @@ fn is_outside(sym: &Sym) -> bool {
     let text = sym.text.as_str();
     match sym.next {
         Next::Token(Sign::Decimal | Sign::Hole | Sign::VisibleAt | Sign::QualifiedDo) => true,
-        Next::Token(Sign::Str) => !text.starts_with("\"\"\"") && has_refused_escape(text, char::MAX),
-        Next::Token(Sign::Character) => has_far_character(text) || has_refused_escape(text, '\u{ffff}'),
+        Next::Token(Sign::Str) => !text.starts_with("\"\"\"")
+            && has_refused_escape(text, char::MAX),
+        Next::Token(Sign::Character) => has_far_character(text)
+            || has_refused_escape(text, '\u{ffff}'),
         _ => false,
     }
 }
@@ -109,7 +121,9 @@ fn begins_instance(item: &[Sym]) -> bool {
 fn begins_signature(syms: &[Sym]) -> bool {
     match syms {
         [mark, name, colons, ..] => {
-            mark.next == Next::Item && is_lower(name.next) && colons.next == Next::Token(Sign::DoubleColon)
+            mark.next == Next::Item
+                && is_lower(name.next)
+                && colons.next == Next::Token(Sign::DoubleColon)
         }
         _ => false,
     }

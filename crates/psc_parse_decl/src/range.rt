@@ -42,10 +42,16 @@ fn ends_operand(next: Next) -> bool {
 /// The literal with its `-`, if it has one.
 fn wide(alloc: Global, digits: &Sym, minus: Option<Span>) -> Result<WideLiteral, NoMemory> {
     match minus {
-        None => Ok(WideLiteral { text: digits.text.clone()?, span: digits.span }),
+        None => Ok(WideLiteral {
+            text: digits.text.clone()?,
+            span: digits.span,
+        }),
         Some(minus) => {
             let text = format!(in alloc; "-{}", digits.text.as_str())?;
-            Ok(WideLiteral { text: Text::from_string(text)?, span: minus.to(digits.span) })
+            Ok(WideLiteral {
+                text: Text::from_string(text)?,
+                span: minus.to(digits.span),
+            })
         }
     }
 }

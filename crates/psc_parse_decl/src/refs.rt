@@ -2,7 +2,9 @@
 
 use psc_ast::{Ctors, Export, ImportList, ImportTree, ModuleAt, OpAt, Ref, UpperAt};
 use psc_lex::Sign;
-use psc_parse_base::{Fault, Next, Parsed, Sym, eat, expect, ident, module_name, op, peek, sees, span_of, upper};
+use psc_parse_base::{
+    Fault, Next, Parsed, Sym, eat, expect, ident, module_name, op, peek, sees, span_of, upper,
+};
 use sqlite_items::Items;
 use std::alloc::Global;
 
@@ -47,19 +49,38 @@ fn ctors(alloc: Global, syms: &[Sym]) -> Parsed<'_, Ctors> {
 fn type_ref(alloc: Global, syms: &[Sym]) -> Parsed<'_, Ref> {
     let (name, rest) = upper(syms)?;
     let (ctors, rest) = ctors(alloc, rest)?;
-    Ok((Ref::XType { name, ctors, span: span_of(syms, rest) }, rest))
+    Ok((
+        Ref::XType {
+            name,
+            ctors,
+            span: span_of(syms, rest),
+        },
+        rest,
+    ))
 }
 
 /// `class C`, from the keyword on.
 fn class_ref(syms: &[Sym]) -> Parsed<'_, Ref> {
     let (name, rest) = upper(expect(syms, Sign::Class)?)?;
-    Ok((Ref::Class { name, span: span_of(syms, rest) }, rest))
+    Ok((
+        Ref::Class {
+            name,
+            span: span_of(syms, rest),
+        },
+        rest,
+    ))
 }
 
 /// `type (+)`, from the keyword on.
 fn type_operator_ref(syms: &[Sym]) -> Parsed<'_, Ref> {
     let (op, rest) = op_in_parens(expect(syms, Sign::XType)?)?;
-    Ok((Ref::TypeOperator { op, span: span_of(syms, rest) }, rest))
+    Ok((
+        Ref::TypeOperator {
+            op,
+            span: span_of(syms, rest),
+        },
+        rest,
+    ))
 }
 
 /// A reference of an export or import list.
@@ -70,7 +91,13 @@ fn reference(alloc: Global, syms: &[Sym]) -> Parsed<'_, Ref> {
         Next::Token(Sign::XType) => type_operator_ref(syms),
         Next::Token(Sign::LeftParen) => {
             let (op, rest) = op_in_parens(syms)?;
-            Ok((Ref::Operator { op, span: span_of(syms, rest) }, rest))
+            Ok((
+                Ref::Operator {
+                    op,
+                    span: span_of(syms, rest),
+                },
+                rest,
+            ))
         }
         _ => {
             let (name, rest) = ident(syms)?;
@@ -85,7 +112,13 @@ fn export(alloc: Global, syms: &[Sym]) -> Parsed<'_, Export> {
         return Ok((Export::Ref(found), rest));
     };
     let (name, rest) = module_name(alloc, rest)?;
-    Ok((Export::Module { name, span: span_of(syms, rest) }, rest))
+    Ok((
+        Export::Module {
+            name,
+            span: span_of(syms, rest),
+        },
+        rest,
+    ))
 }
 
 /// Exports with commas between them.
@@ -168,5 +201,13 @@ pub fn import(alloc: Global, syms: &[Sym]) -> Parsed<'_, ImportTree> {
     let (module, rest) = module_name(alloc, expect(syms, Sign::Import)?)?;
     let (list, rest) = import_list(alloc, rest)?;
     let (alias, rest) = alias(alloc, rest)?;
-    Ok((ImportTree { module, list, alias, span: span_of(syms, rest) }, rest))
+    Ok((
+        ImportTree {
+            module,
+            list,
+            alias,
+            span: span_of(syms, rest),
+        },
+        rest,
+    ))
 }

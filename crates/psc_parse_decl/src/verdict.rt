@@ -79,12 +79,22 @@ pub fn error_at(
         Wrong::OutOfMemory => Err(NoMemory),
         Wrong::Code(code) => {
             let parts = SharedItems::from_vec(alloc, parts)?;
-            Ok(PsError { code, module, span, parts })
+            Ok(PsError {
+                code,
+                module,
+                span,
+                parts,
+            })
         }
         Wrong::Wide(WideLiteral { text, span }) => {
             parts.push(text)?;
             let parts = SharedItems::from_vec(alloc, parts)?;
-            Ok(PsError { code: Code::IntOutOfRange, module, span, parts })
+            Ok(PsError {
+                code: Code::IntOutOfRange,
+                module,
+                span,
+                parts,
+            })
         }
     }
 }
