@@ -8,7 +8,7 @@ use Rattle.psc_groups.specs.Groups.{IsMember, MentionsItself, IsReadyAt, IsEarli
 use Rattle.psc_groups.specs.declared.groups.BindingGroup.{BindingGroup}
 use Rattle.psc_groups.specs.declared.groups.Links.{Links}
 use Rattle.psc_groups.proofs.Lists.{after_push, before, pushed, after_write, unwritten, written, within, some_at, same_item}
-use Rattle.psc_groups.proofs.Order.{same_or_not, added, kept, stands_there, first_same}
+use Rattle.psc_groups.proofs.Placing.{same_or_not, added, kept, stands_there, first_same}
 
 -- the declarations by their numbers
 pub no_members : (numbers : List ℕ) (count : ℕ) (lists : List (Vec ℕ Global)) → AreEmpty lists count → AreMembers numbers count 0 lists

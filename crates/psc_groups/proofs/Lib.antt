@@ -5,5 +5,5 @@ pub mod Leave
 pub mod Close
 pub mod Steps
 pub mod Maps
-pub mod Order
-pub mod Groups
+pub mod Placing
+pub mod Joining

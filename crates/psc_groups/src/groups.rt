@@ -117,7 +117,7 @@ impl Links {
     }
 }
 
-fn empty_lists<T>(alloc: Global, count: usize) -> Result<Vec<Vec<T>>, NoMemory>
+fn empty_lists<T: Drop>(alloc: Global, count: usize) -> Result<Vec<Vec<T>>, NoMemory>
     ensures { IfOk result (λ lists. AreEmpty lists.items count) }
 {
     let mut lists = Vec::new(alloc);

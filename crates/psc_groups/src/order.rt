@@ -4,7 +4,7 @@
 //! time that of the group with the earliest declaration among those whose mentions are all placed.
 //! A group that is not ready waits on one of those that it mentions. When that one is placed, the group is looked at again.
 
-ghost use Rattle.std.specs.Prelude.{◌≡◌, ◌≤◌, ◌<◌, ◌×◌, ◌↔◌, ℕ, [], ◌∷◌, ◌++◌, length, slice_get, Some, None, IsTrue, IfOk, OnOk, MatchOption};
+ghost use Rattle.std.specs.Prelude.{◌≡◌, ◌≤◌, ◌<◌, ◌↔◌, ℕ, [], ◌∷◌, ◌++◌, length, slice_get, Some, None, IsTrue, IfOk, OnOk, MatchOption};
 ghost use Rattle.std.specs.Ordering.{nat_cmp};
 ghost use Rattle.std.specs.BTreeMap.{get};
 ghost use Rattle.psc_groups.specs.Graph.{Mentions};
