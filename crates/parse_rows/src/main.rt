@@ -9,7 +9,7 @@
 use psc_ast::Module;
 use psc_ast_text::module_text;
 use psc_error::{PsError, error_line};
-use psc_lex::lex_layout;
+use psc_lex::{Tok, lex_layout};
 use psc_parse_decl::{parse, parse_bytes};
 use psc_parse_expr::{nesting, parse_binder, parse_expr, parse_type};
 use psc_text::NoMemory;
@@ -130,41 +130,58 @@ fn read_rows(alloc: Global, text: &str) -> Result<String, NoMemory> {
     Ok(format!(in alloc; "{}{} rows, {} differ", report, count, differing)?)
 }
 
+fn is_type(alloc: Global, toks: &[Tok]) -> Result<bool, NoMemory> {
+    Ok(parse_type(alloc, toks)?.is_some())
+}
+
+fn is_expr(alloc: Global, toks: &[Tok]) -> Result<bool, NoMemory> {
+    Ok(parse_expr(alloc, toks)?.is_some())
+}
+
+fn is_binder(alloc: Global, toks: &[Tok]) -> Result<bool, NoMemory> {
+    Ok(parse_binder(alloc, toks)?.is_some())
+}
+
+fn yes_or_no(alloc: Global, answer: bool) -> Result<String, NoMemory> {
+    Ok(String::from_str(alloc, if answer { "yes" } else { "no" })?)
+}
+
+fn depth_text(alloc: Global, toks: &[Tok]) -> Result<String, NoMemory> {
+    let depth = nesting(alloc, toks)?;
+    Ok(format!(in alloc; "{}", depth)?)
+}
+
 /// What a part of the grammar says of a text: `yes` or `no`, or how deep it nests.
 fn part_text(alloc: Global, kind: &str, text: &str) -> Result<String, NoMemory> {
     let toks = lex_layout(alloc, text)?;
-    let is_whole = match kind {
-        "type" => parse_type(alloc, toks.as_slice())?.is_some(),
-        "expr" => parse_expr(alloc, toks.as_slice())?.is_some(),
-        "binder" => parse_binder(alloc, toks.as_slice())?.is_some(),
-        _ => {
-            let depth = nesting(alloc, toks.as_slice())?;
-            return Ok(format!(in alloc; "{}", depth)?);
-        }
-    };
-    Ok(String::from_str(alloc, if is_whole { "yes" } else { "no" })?)
+    let toks = toks.as_slice();
+    match kind {
+        "type" => yes_or_no(alloc, is_type(alloc, toks)?),
+        "expr" => yes_or_no(alloc, is_expr(alloc, toks)?),
+        "binder" => yes_or_no(alloc, is_binder(alloc, toks)?),
+        _ => depth_text(alloc, toks),
+    }
 }
 
-/// What is printed of a line `kind want text`: nothing where the part says what it must.
-fn part_report(alloc: Global, line: &str) -> Result<String, NoMemory> {
-    let Some((kind, rest)) = line.split_once(' ') else {
-        return Ok(format!(in alloc; "no part: {}\n", line)?);
-    };
+/// Appends what is printed of a line `kind want text`: nothing where the part says what it must.
+fn report_part(alloc: Global, line: &str, out: &mut String) -> Result<(), NoMemory> {
+    let (kind, rest) = line.split_once(' ').unwrap_or((line, ""));
     let (want, text) = rest.split_once(' ').unwrap_or((rest, ""));
     let got = part_text(alloc, kind, text)?;
     if got.as_str() == want {
-        Ok(String::new(alloc))
-    } else {
-        Ok(format!(in alloc; "{} of {}: got {}, want {}\n", kind, text, got, want)?)
+        return Ok(());
     }
+    for part in [line, "\n  got  ", got.as_str(), "\n"] {
+        out.push_str(part)?;
+    }
+    Ok(())
 }
 
 fn read_parts(alloc: Global, text: &str) -> Result<String, NoMemory> {
     let mut out = String::new(alloc);
     let mut count: u32 = 0;
     for line in text.lines() {
-        let report = part_report(alloc, line)?;
-        out.push_str(report.as_str())?;
+        report_part(alloc, line, &mut out)?;
         count = count.saturating_add(1);
     }
     let end = format!(in alloc; "{} parts", count)?;
