@@ -16,21 +16,23 @@ is_current() {
 }
 
 # `rt run` leaves the program behind. Without words it ends with a refusal, which shows that it was built.
+# The program gets the time at which its building began, so that a source that changed meanwhile is newer.
 build() {
-    local log answer began
-    began=$(date +%s)
+    local log began answer
     log=$(mktemp)
+    began=$(mktemp)
+    SECONDS=0
     echo "purs: proving and building the program; the first time this takes some minutes" >&2
     answer=$(cd "$crate" && rt run 2>"$log" </dev/null) || true
     if [ "$answer" != "purs: bad words" ]; then
         cat "$log" >&2
         echo "purs: not built, as said above" >&2
-        rm -f "$log"
+        rm -f "$log" "$began"
         exit 2
     fi
-    rm -f "$log"
-    touch -d "@$began" "$program"
-    echo "purs: proved and built in $(($(date +%s) - began)) seconds" >&2
+    touch -r "$began" "$program"
+    rm -f "$log" "$began"
+    echo "purs: proved and built in $SECONDS seconds" >&2
 }
 
 is_current || build

@@ -12,10 +12,10 @@ other_name : (b : Bool) (x y : Option (List ℕ)) → ¬ (IsTrue b) → cond b x
 other_name true x y n = absurd (n refl)
 other_name false x y n = refl
 
-pub replaced-name : (held : Contents) (name bytes : List ℕ) → replaced held name bytes name ≡ Some bytes
+pub replaced_name : (held : Contents) (name bytes : List ℕ) → replaced held name bytes name ≡ Some bytes
 unfolding replaced
-replaced-name held name bytes = same_name _ _ _ ((text_Decides name name).1 refl)
+replaced_name held name bytes = same_name _ _ _ ((text_Decides name name).1 refl)
 
-pub replaced-other : (held : Contents) (name bytes other : List ℕ) → ¬ (name ≡ other) → replaced held name bytes other ≡ held other
+pub replaced_other : (held : Contents) (name bytes other : List ℕ) → ¬ (name ≡ other) → replaced held name bytes other ≡ held other
 unfolding replaced
-replaced-other held name bytes other n = other_name _ _ _ (λ e. n ((text_Decides name other).0 e))
+replaced_other held name bytes other n = other_name _ _ _ (λ e. n ((text_Decides name other).0 e))

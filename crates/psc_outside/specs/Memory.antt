@@ -1,5 +1,5 @@
 -- What the objects in memory hold, and which of their calls fail.
-use Rattle.std.specs.Prelude.{ℕ, ◌-◌, min, Bool, cond, ◌==◌, ◌&&◌, nat_eq, List, [], ◌∷◌, Option, Some, None}
+use Rattle.std.specs.Prelude.{◌≡◌, ℕ, ◌+◌, ◌-◌, ◌^◌, min, Bool, cond, ◌==◌, ◌&&◌, nat_eq, List, [], ◌∷◌, ◌++◌, Option, Some, None}
 use Rattle.std.specs.List.{list_any}
 use Rattle.std.specs.Ordering.{nat_cmp}
 use Rattle.std.specs.Cmp.Lexicographic.{slice_cmp, pointwise}
@@ -11,9 +11,21 @@ use Rattle.psc_outside.specs.declared.mem_shelf.MemShelf.{MemShelf}
 use Rattle.psc_outside.specs.declared.mem_shelf.ShelfCall.{ShelfCall}
 use Rattle.psc_outside.specs.declared.mem_shelf.ShelfCall.TheVariants.{Read, Replace}
 
--- the last call is one of those that are to fail
-abbrev pub is_due : Schedule → Bool
-is_due schedule = list_any (λ n. n == schedule.calls) schedule.failing.items
+-- the number of the next call, counted from 1 up to the greatest count
+abbrev pub next_call : Schedule → ℕ
+next_call schedule = min (schedule.calls + 1) (2 ^ 64 - 1)
+
+-- the next call is one of those that are to fail
+abbrev pub is_next_due : Schedule → Bool
+is_next_due schedule = list_any (λ n. n == next_call schedule) schedule.failing.items
+
+-- the call of this number is to fail too
+abbrev pub FailsToo : Schedule → ℕ → Schedule → Type 0
+FailsToo before call after = (after.failing.items ≡ before.failing.items ++ call ∷ []) × (after.calls ≡ before.calls)
+
+-- one more call was counted
+abbrev pub IsCounted : Schedule → Schedule → Type 0
+IsCounted before after = (after.failing.items ≡ before.failing.items) × (after.calls ≡ next_call before)
 
 -- what files in memory hold
 abbrev pub held_by_files : MemFiles → Contents

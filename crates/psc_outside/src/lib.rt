@@ -7,6 +7,7 @@
 
 mod counting;
 mod files;
+mod laws;
 mod mem_files;
 mod mem_shelf;
 mod mem_sink;
@@ -19,6 +20,7 @@ mod status;
 
 pub use counting::{count_put, count_read};
 pub use files::Files;
+pub use laws::replacement_is_of_one_name;
 pub use mem_files::MemFiles;
 pub use mem_shelf::{MemShelf, ShelfCall};
 pub use mem_sink::MemSink;

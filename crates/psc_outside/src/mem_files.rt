@@ -1,9 +1,9 @@
 //! Files in memory.
 
-ghost use Rattle.std.specs.Prelude.{◌≡◌, ◌≤◌, true, [], cond, IsTrue, IfOk, OnOk};
+ghost use Rattle.std.specs.Prelude.{◌≡◌, ◌≤◌, true, [], cond, IsTrue, IfOk, OnOk, OnErr};
 ghost use Rattle.psc_outside.specs.Contents.{Reads, IsInLimit, nothing, replaced, answer_at};
 ghost use Rattle.psc_outside.specs.Faults.{ReadCounts};
-ghost use Rattle.psc_outside.specs.Memory.{is_due, held_by_files};
+ghost use Rattle.psc_outside.specs.Memory.{is_next_due, FailsToo, IsCounted, held_by_files};
 ghost use Rattle.psc_outside.specs.declared.read_file.ReadFile.TheVariants as answer;
 
 use crate::counting::count_read;
@@ -53,6 +53,7 @@ impl MemFiles {
 
     /// Has the reading of this number fail, counted from 1.
     pub fn fail_read(&mut self, call: u64) -> Result<(), NoMemory>
+        ensures added { OnOk result (FailsToo self.old.readings call self.new.readings) }
         ensures same_contents { held_by_files self.new ≡ held_by_files self.old }
         ensures same_faults { self.new.faults ≡ self.old.faults }
     {
@@ -70,7 +71,9 @@ impl Files for MemFiles {
     ghost faults = { λ m. m.faults };
 
     fn read(&mut self, alloc: Global, path: &str) -> Result<ReadFile, NoMemory>
-        ensures exactly { IfOk result (λ r. r ≡ cond (is_due self.new.readings) answer.Failed (answer_at (held_by_files self.old path.now))) }
+        ensures exactly { IfOk result (λ r. r ≡ cond (is_next_due self.old.readings) answer.Failed (answer_at (held_by_files self.old path.now))) }
+        ensures counted { OnOk result (IsCounted self.old.readings self.new.readings) }
+        ensures refused { OnErr result (self.new ≡ self.old) }
         ensures answers { IfOk result (λ r. Reads (held_by_files self.old path.now) r) }
         ensures in_limit { IfOk result IsInLimit }
         ensures counts { IfOk result (λ r. ReadCounts self.old.faults self.new.faults r) }
@@ -84,6 +87,7 @@ impl Files for MemFiles {
             let path = Text::new(alloc, path)?;
             answer_of(self.contents.get(&path))?
         };
+        self.readings.count();
         self.faults = count_read(self.faults, &answer);
         Ok(answer)
     }

@@ -4,7 +4,7 @@ ghost use Rattle.std.specs.Prelude.{◌≡◌, ◌≤◌, true, cond, not, ◌||
 ghost use Rattle.std.specs.Option.{option_copied};
 ghost use Rattle.psc_outside.specs.Contents.{nothing, answer_at, Reads, IsInLimit, Replaces, IsOldOrNew};
 ghost use Rattle.psc_outside.specs.Faults.{ReadCounts, PutCounts};
-ghost use Rattle.psc_outside.specs.Memory.{is_due, after, after_all, held_by_shelf, stored_at};
+ghost use Rattle.psc_outside.specs.Memory.{is_next_due, FailsToo, IsCounted, after, after_all, held_by_shelf, stored_at};
 ghost use Rattle.psc_outside.specs.declared.put.Put.TheVariants as put;
 ghost use Rattle.psc_outside.specs.declared.read_file.ReadFile.TheVariants as answer;
 ghost use Rattle.psc_outside.specs.declared.mem_shelf.ShelfCall.TheVariants as call;
@@ -71,6 +71,8 @@ impl MemShelf {
     pub fn new(alloc: Global) -> MemShelf
         ensures empty { held_by_shelf result ≡ nothing }
         ensures no_calls { result.calls.items ≡ [] }
+        ensures no_reading_fails { result.readings.failing.items ≡ [] }
+        ensures no_replacement_fails { (result.replacements.failing.items ≡ []) × (result.late_replacements.failing.items ≡ []) }
         ensures no_faults { result.faults ≡ 0 }
     {
         MemShelf {
@@ -84,6 +86,8 @@ impl MemShelf {
 
     /// Has the reading of this number fail, counted from 1.
     pub fn fail_read(&mut self, call: u64) -> Result<(), NoMemory>
+        ensures added { OnOk result (FailsToo self.old.readings call self.new.readings) }
+        ensures same_others { (self.new.replacements ≡ self.old.replacements) × (self.new.late_replacements ≡ self.old.late_replacements) }
         ensures same_calls { self.new.calls ≡ self.old.calls }
         ensures same_faults { self.new.faults ≡ self.old.faults }
     {
@@ -92,6 +96,8 @@ impl MemShelf {
 
     /// Has the replacement of this number fail and leave the old bytes, counted from 1.
     pub fn fail_replace(&mut self, call: u64) -> Result<(), NoMemory>
+        ensures added { OnOk result (FailsToo self.old.replacements call self.new.replacements) }
+        ensures same_others { (self.new.readings ≡ self.old.readings) × (self.new.late_replacements ≡ self.old.late_replacements) }
         ensures same_calls { self.new.calls ≡ self.old.calls }
         ensures same_faults { self.new.faults ≡ self.old.faults }
     {
@@ -100,6 +106,8 @@ impl MemShelf {
 
     /// Has the replacement of this number fail although the new bytes are stored, counted from 1.
     pub fn fail_replace_late(&mut self, call: u64) -> Result<(), NoMemory>
+        ensures added { OnOk result (FailsToo self.old.late_replacements call self.new.late_replacements) }
+        ensures same_others { (self.new.readings ≡ self.old.readings) × (self.new.replacements ≡ self.old.replacements) }
         ensures same_calls { self.new.calls ≡ self.old.calls }
         ensures same_faults { self.new.faults ≡ self.old.faults }
     {
@@ -133,8 +141,11 @@ impl Shelf for MemShelf {
     ghost faults = { λ m. m.faults };
 
     fn read(&mut self, alloc: Global, name: &str) -> Result<ReadFile, NoMemory>
-        ensures exactly { IfOk result (λ r. r ≡ cond (is_due self.new.readings) answer.Failed (answer_at (held_by_shelf self.old name.now))) }
+        ensures exactly { IfOk result (λ r. r ≡ cond (is_next_due self.old.readings) answer.Failed (answer_at (held_by_shelf self.old name.now))) }
+        ensures counted { OnOk result (IsCounted self.old.readings self.new.readings) }
+        ensures same_replacements { (self.new.replacements ≡ self.old.replacements) × (self.new.late_replacements ≡ self.old.late_replacements) }
         ensures noted { IfOk result (λ r. self.new.calls.items ≡ self.old.calls.items ++ call.Read name.now r ∷ []) }
+        ensures refused { OnErr result ((self.new.calls.items ≡ self.old.calls.items) × (self.new.readings ≡ self.old.readings) × (self.new.faults ≡ self.old.faults)) }
         ensures answers { IfOk result (λ r. Reads (held_by_shelf self.old name.now) r) }
         ensures in_limit { IfOk result IsInLimit }
         ensures counts { IfOk result (λ r. ReadCounts self.old.faults self.new.faults r) }
@@ -155,14 +166,18 @@ impl Shelf for MemShelf {
                 answer: given,
             },
         )?;
+        self.readings.count();
         self.faults = count_read(self.faults, &answer);
         Ok(answer)
     }
 
     fn replace(&mut self, alloc: Global, name: &str, bytes: &[u8]) -> Result<Put, NoMemory>
-        ensures exactly { IfOk result (λ r. r ≡ cond (is_due self.new.replacements || is_due self.new.late_replacements) put.Failed put.Done) }
-        ensures noted { IfOk result (λ r. self.new.calls.items ≡ self.old.calls.items ++ call.Replace name.now bytes.now (not (is_due self.new.replacements)) r ∷ []) }
-        ensures unstored { OnErr result (held_by_shelf self.new ≡ held_by_shelf self.old) }
+        ensures exactly { IfOk result (λ r. r ≡ cond (is_next_due self.old.replacements || is_next_due self.old.late_replacements) put.Failed put.Done) }
+        ensures counted { OnOk result (IsCounted self.old.replacements self.new.replacements × IsCounted self.old.late_replacements self.new.late_replacements) }
+        ensures same_readings { self.new.readings ≡ self.old.readings }
+        ensures noted { IfOk result (λ r. self.new.calls.items ≡ self.old.calls.items ++ call.Replace name.now bytes.now (not (is_next_due self.old.replacements)) r ∷ []) }
+        ensures refused { OnErr result ((self.new.calls.items ≡ self.old.calls.items) × (self.new.replacements ≡ self.old.replacements)
+            × (self.new.late_replacements ≡ self.old.late_replacements) × (self.new.faults ≡ self.old.faults)) }
         ensures stores { IfOk result (λ r. Replaces (held_by_shelf self.old) name.now bytes.now (held_by_shelf self.new) r) }
         ensures old_or_new { IsOldOrNew (held_by_shelf self.old) name.now bytes.now (held_by_shelf self.new) }
         ensures counts { IfOk result (λ r. PutCounts self.old.faults self.new.faults r) }
@@ -187,6 +202,8 @@ impl Shelf for MemShelf {
                 answer,
             },
         )?;
+        self.replacements.count();
+        self.late_replacements.count();
         self.faults = count_put(self.faults, answer);
         Ok(answer)
     }

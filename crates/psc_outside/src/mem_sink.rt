@@ -1,9 +1,9 @@
 //! A sink in memory.
 
-ghost use Rattle.std.specs.Prelude.{◌≡◌, ◌≤◌, true, cond, ◌||◌, nat_lt, [], ◌++◌, length, take, None, IfOk, OnErr};
+ghost use Rattle.std.specs.Prelude.{◌≡◌, ◌≤◌, true, cond, ◌||◌, nat_lt, [], ◌++◌, length, take, None, Some, IfOk, OnOk, OnErr};
 ghost use Rattle.psc_outside.specs.Contents.{Appends, AppendsPrefix};
 ghost use Rattle.psc_outside.specs.Faults.{PutCounts};
-ghost use Rattle.psc_outside.specs.Memory.{is_due, fits, room_after};
+ghost use Rattle.psc_outside.specs.Memory.{is_next_due, FailsToo, IsCounted, fits, room_after};
 ghost use Rattle.psc_outside.specs.declared.put.Put.TheVariants as put;
 
 use crate::counting::count_put;
@@ -40,6 +40,8 @@ impl MemSink {
 
     /// Has the putting of this number fail and take nothing, counted from 1.
     pub fn fail_put(&mut self, call: u64) -> Result<(), NoMemory>
+        ensures added { OnOk result (FailsToo self.old.puts call self.new.puts) }
+        ensures same_room { self.new.room ≡ self.old.room }
         ensures same_taken { self.new.taken ≡ self.old.taken }
         ensures same_faults { self.new.faults ≡ self.old.faults }
     {
@@ -48,6 +50,8 @@ impl MemSink {
 
     /// Has each putting fail that does not fit into so many further bytes; of that piece only what fits is taken.
     pub fn fail_after(&mut self, bytes: usize)
+        ensures room { self.new.room ≡ Some bytes }
+        ensures same_puts { self.new.puts ≡ self.old.puts }
         ensures same_taken { self.new.taken ≡ self.old.taken }
         ensures same_faults { self.new.faults ≡ self.old.faults }
     {
@@ -59,7 +63,7 @@ impl MemSink {
         ensures exactly { IfOk result (λ r. r ≡ cond (nat_lt (fits self.old.room (length piece.now)) (length piece.now)) put.Failed put.Done) }
         ensures taken { IfOk result (λ _. self.new.taken.items ≡ self.old.taken.items ++ take (fits self.old.room (length piece.now)) piece.now) }
         ensures room_left { IfOk result (λ _. self.new.room ≡ room_after self.old.room (length piece.now)) }
-        ensures refused { OnErr result (self.new.taken.items ≡ self.old.taken.items) }
+        ensures refused { OnErr result ((self.new.taken.items ≡ self.old.taken.items) × (self.new.room ≡ self.old.room)) }
         ensures same_faults { self.new.faults ≡ self.old.faults }
         ensures same_puts { self.new.puts ≡ self.old.puts }
     {
@@ -92,9 +96,12 @@ impl Sink for MemSink {
     ghost faults = { λ m. m.faults };
 
     fn put(&mut self, _alloc: Global, piece: &[u8]) -> Result<Put, NoMemory>
-        ensures exactly { IfOk result (λ r. r ≡ cond (is_due self.new.puts || nat_lt (fits self.old.room (length piece.now)) (length piece.now)) put.Failed put.Done) }
-        ensures takes_what_fits { IfOk result (λ _. self.new.taken.items ≡ self.old.taken.items ++ cond (is_due self.new.puts) [] (take (fits self.old.room (length piece.now)) piece.now)) }
-        ensures room_left { IfOk result (λ _. self.new.room ≡ cond (is_due self.new.puts) self.old.room (room_after self.old.room (length piece.now))) }
+        ensures exactly { IfOk result (λ r. r ≡ cond (is_next_due self.old.puts || nat_lt (fits self.old.room (length piece.now)) (length piece.now)) put.Failed put.Done) }
+        ensures takes_what_fits { IfOk result (λ _. self.new.taken.items ≡ self.old.taken.items ++ cond (is_next_due self.old.puts) [] (take (fits self.old.room (length piece.now)) piece.now)) }
+        ensures room_left { IfOk result (λ _. self.new.room ≡ cond (is_next_due self.old.puts) self.old.room (room_after self.old.room (length piece.now))) }
+        ensures counted { OnOk result (IsCounted self.old.puts self.new.puts) }
+        ensures refused { OnErr result ((self.new.taken.items ≡ self.old.taken.items) × (self.new.room ≡ self.old.room)
+            × (self.new.puts ≡ self.old.puts) × (self.new.faults ≡ self.old.faults)) }
         ensures takes { IfOk result (λ r. Appends self.old.taken.items piece.now self.new.taken.items r) }
         ensures prefix { AppendsPrefix self.old.taken.items piece.now self.new.taken.items }
         ensures counts { IfOk result (λ r. PutCounts self.old.faults self.new.faults r) }
@@ -105,6 +112,7 @@ impl Sink for MemSink {
         } else {
             self.take_what_fits(piece)?
         };
+        self.puts.count();
         self.faults = count_put(self.faults, answer);
         Ok(answer)
     }

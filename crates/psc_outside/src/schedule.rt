@@ -1,7 +1,7 @@
 //! Which calls of an object in memory are to fail.
 
-ghost use Rattle.std.specs.Prelude.{◌≡◌, ◌+◌, ◌-◌, ◌^◌, ◌++◌, [], ◌∷◌, min, OnOk, OnErr};
-ghost use Rattle.psc_outside.specs.Memory.{is_due};
+ghost use Rattle.std.specs.Prelude.{◌≡◌, [], OnOk, OnErr};
+ghost use Rattle.psc_outside.specs.Memory.{is_next_due, FailsToo, IsCounted};
 
 use psc_text::NoMemory;
 use std::alloc::Global;
@@ -27,7 +27,7 @@ impl Schedule {
 
     /// Has the call of this number fail too.
     pub fn fail_at(&mut self, call: u64) -> Result<(), NoMemory>
-        ensures added { OnOk result (self.new.failing.items ≡ self.old.failing.items ++ call ∷ []) }
+        ensures added { OnOk result (FailsToo self.old call self.new) }
         ensures refused { OnErr result (self.new.failing.items ≡ self.old.failing.items) }
         ensures same_calls { self.new.calls ≡ self.old.calls }
     {
@@ -35,13 +35,17 @@ impl Schedule {
         Ok(())
     }
 
-    /// Counts a call, and says whether it is to fail.
-    pub fn next_fails(&mut self) -> bool
-        ensures due { result ≡ is_due self.new }
-        ensures counted { self.new.calls ≡ min (self.old.calls + 1) (2 ^ 64 - 1) }
-        ensures same_failing { self.new.failing.items ≡ self.old.failing.items }
+    /// Whether the next call is to fail.
+    pub fn next_fails(&self) -> bool
+        ensures { result ≡ is_next_due self.now }
+    {
+        self.failing.contains(&self.calls.saturating_add(1))
+    }
+
+    /// Counts a call.
+    pub fn count(&mut self)
+        ensures { IsCounted self.old self.new }
     {
         self.calls = self.calls.saturating_add(1);
-        self.failing.contains(&self.calls)
     }
 }

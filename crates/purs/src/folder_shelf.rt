@@ -61,11 +61,20 @@ impl Shelf for FolderShelf {
     }
 }
 
-/// Writes the bytes to the neighbour and renames it over the place, so that no reader finds half of them there.
+/// Puts the bytes under the place, by way of the neighbour, which a fault leaves behind no more than a success does.
 fn store(rt: HostRuntime, place: &str, neighbour: &str, bytes: &[u8]) -> io::Result<()> {
     if let Some(folder) = Path::new(place).parent() {
         fs::create_dir_all(&rt, folder)?;
     }
+    let stored = write_and_rename(rt, place, neighbour, bytes);
+    if stored.is_err() {
+        let _ = fs::remove_file(&rt, neighbour);
+    }
+    stored
+}
+
+/// Writes the bytes to the neighbour and renames it over the place, so that no reader finds half of them there.
+fn write_and_rename(rt: HostRuntime, place: &str, neighbour: &str, bytes: &[u8]) -> io::Result<()> {
     write_to(rt, neighbour, bytes)?;
     fs::rename(&rt, neighbour, place)
 }

@@ -61,6 +61,20 @@ fn a_shelf_makes_folders_and_leaves_no_neighbour(rt: HostRuntime) -> Result<(), 
     Ok(())
 }
 
+#[test]
+fn a_replacement_that_fails_leaves_no_neighbour(rt: HostRuntime) -> Result<(), Fail> {
+    let alloc = rt.alloc();
+    let folder = scratch(rt, "fault")?;
+    let taken = format!(in alloc; "{}/N/corefn.json", folder.as_str())?;
+    fs::create_dir_all(&rt, taken.as_str())?;
+    let mut shelf = FolderShelf::new(rt, Text::new(alloc, folder.as_str())?);
+    assert!(rt; shelf.replace(alloc, "N/corefn.json", b"text")? == Put::Failed);
+    assert!(rt; shelf.read(alloc, "N/corefn.json.new")? == ReadFile::Absent);
+    assert_eq!(rt; shelf.faults(), 1);
+    fs::remove_dir_all(&rt, folder.as_str())?;
+    Ok(())
+}
+
 /// A writer that takes two bytes at a time, is interrupted first, and has room for so many in all.
 #[derive(Drop)]
 struct Dribble {

@@ -1,0 +1,3 @@
+pub mod Role
+pub mod Nest
+pub mod Depth
