@@ -2,8 +2,8 @@
 """Times the front of the compiler on sources that it makes. usage: bench/front.py [MEGABYTES]
 
 Run `rt run` in crates/front_speed first: it proves and builds the program. Printed are, for ordinary source, megabytes a
-second, and for each shape the time at the size given (1 MB) and at a tenth of it; 12 times is the most that is wanted. All is on
-one core, by the time that the program's own process takes of it, best of five.
+second, and for each shape the time at the size given (1 MB) and at a tenth of it, and how many times as long ten times the bytes take;
+12 times is the most that is wanted. All is on one core, by the time that the program's own process takes of it, best of five.
 """
 import os
 import resource
@@ -71,9 +71,10 @@ def main():
         for name, shape in SHAPES.items():
             small_bytes, small = time_of(shape, size // 10, phase)
             bytes_, large = time_of(shape, size, phase)
+            times = 10 * (large / bytes_) / (small / small_bytes)
             print(
                 "%-6s %-26s %8d bytes %6.3f s, %8d bytes %6.3f s, %4.1f times, %5.1f MB/s"
-                % (phase, name, small_bytes, small, bytes_, large, large / small, bytes_ / 1e6 / large)
+                % (phase, name, small_bytes, small, bytes_, large, times, bytes_ / 1e6 / large)
             )
 
 
