@@ -71,16 +71,12 @@ impl Rows {
     /// Notes what a row gave where it should have given something else.
     fn differ(&mut self, got: &str, want: &str) -> Result<(), NoMemory> {
         self.differing = self.differing.saturating_add(1);
-        for part in [
-            self.name.as_str(),
-            "\n  got  ",
-            got,
-            "\n  want ",
-            want,
-            "\n",
-        ] {
-            self.report.push_str(part)?;
-        }
+        self.report.push_str(self.name.as_str())?;
+        self.report.push_str("\n  got  ")?;
+        self.report.push_str(got)?;
+        self.report.push_str("\n  want ")?;
+        self.report.push_str(want)?;
+        self.report.push('\n')?;
         Ok(())
     }
 
