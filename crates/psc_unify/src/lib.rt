@@ -11,6 +11,7 @@ mod names;
 mod read;
 mod solver;
 mod state;
+mod tables;
 
 pub use solver::{Clash, Solver, TypeKind};
 

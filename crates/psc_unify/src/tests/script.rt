@@ -42,17 +42,18 @@ fn start(alloc: Global) -> Result<Solver, NoMemory> {
     Solver::start(alloc, kinds.as_slice())
 }
 
-/// The words of a type that were not read yet.
+/// The words of a type, and how many of them were read.
 #[derive(Drop)]
 struct Words<'a> {
-    rest: &'a [&'a str],
+    words: &'a [&'a str],
+    read: usize,
 }
 
 impl<'a> Words<'a> {
     fn next(&mut self) -> Result<&'a str, Fail> {
-        match self.rest.split_first() {
-            Some((word, rest)) => {
-                self.rest = rest;
+        match self.words.get(self.read) {
+            Some(word) => {
+                self.read = self.read.saturating_add(1);
                 Ok(*word)
             }
             None => Err(Fail::from("a type ends too early")),
@@ -60,11 +61,13 @@ impl<'a> Words<'a> {
     }
 }
 
+#[cycle(script)]
 fn read_shared(alloc: Global, words: &mut Words, depth: u32) -> Result<Shared<Ty>, Fail> {
     let ty = read_type(alloc, words, depth)?;
     Ok(Shared::new(alloc, ty)?)
 }
 
+#[cycle(script)]
 fn read_type(alloc: Global, words: &mut Words, depth: u32) -> Result<Ty, Fail> {
     if depth == 0 {
         return Err(Fail::from("a type is too deep"));
@@ -186,7 +189,7 @@ fn scope(alloc: Global, names: &[&str]) -> Result<Scope, Fail> {
 }
 
 fn whole_type(alloc: Global, words: &[&str]) -> Result<Ty, Fail> {
-    let mut words = Words { rest: words };
+    let mut words = Words { words, read: 0 };
     read_type(alloc, &mut words, 100)
 }
 
