@@ -20,17 +20,6 @@ module _ (old new : List Node) (list : List (Option ℕ)) (work more : List Task
   steps_found = steps_when (λ v. v left ≡ v right) (λ v. v a ≡ v b) old new list work more
       (λ v sol e. at_a v sol.solves ∙ e ∙ sym (at_b v sol.solves)) (λ v sol e. sym (at_a v sol.solves) ∙ e ∙ at_b v sol.solves)
 
-  pub steps_swapped : Steps (λ v. v right ≡ v left) old new list work more → Steps (λ v. v a ≡ v b) old new list work more
-  steps_swapped = steps_when (λ v. v right ≡ v left) (λ v. v a ≡ v b) old new list work more
-      (λ v sol e. at_a v sol.solves ∙ sym e ∙ sym (at_b v sol.solves)) (λ v sol e. sym (at_b v sol.solves) ∙ sym e ∙ at_a v sol.solves)
-
--- both ends are one
-pub steps_met : (nodes : List Node) (list : List (Option ℕ)) (work : List Task) (a b left right : ℕ)
-    → ((v : ℕ → Tree) → Solves v nodes → v a ≡ v left) → ((v : ℕ → Tree) → Solves v nodes → v b ≡ v right) → left ≡ right
-    → IsReady nodes list → AreInside (length nodes) work → Steps (λ v. v a ≡ v b) nodes nodes list work work
-steps_met nodes list work a b left right at_a at_b same ready inside =
-    steps_none (λ v. v a ≡ v b) nodes list work ready inside (λ v sol. at_a v sol.solves ∙ ap v same ∙ sym (at_b v sol.solves))
-
 -- two leaves that are one
 pub steps_leaf : (old new : List Node) (list : List (Option ℕ)) (work : List Task) (left right : ℕ) (x y : Leaf)
     → slice_get old left ≡ Some (Atom x) → slice_get old right ≡ Some (Atom y) → x ≡ y
@@ -109,3 +98,44 @@ steps_merged old s new kinds list is_s is_l long sound complete general work rea
 pub on-ok : {T E : Type 0} {A B : Type 0} (r : Result T E) → (A → B) → OnOk r A → OnOk r B
 on-ok (Ok x) f h = f h
 on-ok (Err e) f h = h
+
+-- the same, where calls had slices of the lists
+module _ (old new : List Node) (list : List (Option ℕ)) (work first asked more : List Task) (left right s t : ℕ) (one two xs ys : List Field) (pairs : List (ℕ × ℕ))
+    (n1 n2 : List Node) (one' two' xs' ys' : List Field) (pairs' : List (ℕ × ℕ))
+    (is_n1 : n1 ≡ old) (is_n2 : n2 ≡ old) (is_one : one' ≡ one) (is_two : two' ≡ two) (is_pairs : pairs' ≡ pairs) (is_xs : xs' ≡ xs) (is_ys : ys' ≡ ys)
+    (at_left : (v : ℕ → Tree) → Solves v n1 → v left ≡ row_of v one (v s)) (at_right : (v : ℕ → Tree) → Solves v n2 → v right ≡ row_of v two (v t))
+    (same : SameRows one' two' pairs xs ys) where
+  same-here : SameRows one two pairs xs ys
+  same-here = subst (λ l. SameRows l two pairs xs ys) is_one (subst (λ l. SameRows one' l pairs xs ys) is_two same)
+
+  pub sliced_rows : first ≡ work ++ Merge left right ∷ [] → asked ≡ first ++ tasks_of pairs'
+      → Steps (λ v. row_of v xs' (v s) ≡ row_of v ys' (v t)) old new list asked more → Steps (λ v. v left ≡ v right) old new list work more
+  sliced_rows is_first is_asked steps =
+      steps_rows old new list work first asked more left right s t one two xs ys pairs
+      (λ v sol. at_left v (subst (Solves v) (sym is_n1) sol)) (λ v sol. at_right v (subst (Solves v) (sym is_n2) sol))
+      same-here is_first (is_asked ∙ ap (λ l. first ++ tasks_of l) is_pairs)
+      (subst (λ l. Steps (λ v. row_of v l (v s) ≡ row_of v ys (v t)) old new list asked more) is_xs
+      (subst (λ l. Steps (λ v. row_of v xs' (v s) ≡ row_of v l (v t)) old new list asked more) is_ys steps))
+
+  pub sliced_clash : (v : ℕ → Tree) → IsSolution v old → (row_of v xs' (v s) ≡ row_of v ys' (v t) → ⊥) → v left ≡ v right → ⊥
+  sliced_clash v sol never e =
+      let both = same-here.parts v (v s) (v t) (sym (at_left v (subst (Solves v) (sym is_n1) sol.solves)) ∙ e ∙ at_right v (subst (Solves v) (sym is_n2) sol.solves)) in
+      never (ap (λ l. row_of v l (v s)) is_xs ∙ both.1 ∙ sym (ap (λ l. row_of v l (v t)) is_ys))
+
+-- the ends of links, found in slices of the nodes
+module _ (old : List Node) (n1 n2 : List Node) (is_n1 : n1 ≡ old) (is_n2 : n2 ≡ old) (a b left right : ℕ)
+    (at_a : (v : ℕ → Tree) → Solves v n1 → v a ≡ v left) (at_b : (v : ℕ → Tree) → Solves v n2 → v b ≡ v right) where
+  pub sliced_found : (new : List Node) (list : List (Option ℕ)) (work more : List Task) → Steps (λ v. v left ≡ v right) old new list work more → Steps (λ v. v a ≡ v b) old new list work more
+  sliced_found new list work more steps =
+      steps_found old new list work more a b left right (λ v sol. at_a v (subst (Solves v) (sym is_n1) sol)) (λ v sol. at_b v (subst (Solves v) (sym is_n2) sol)) steps
+
+  pub sliced_same : (v : ℕ → Tree) → IsSolution v old → v a ≡ v b → v left ≡ v right
+  sliced_same v sol e = sym (at_a v (subst (Solves v) (sym is_n1) sol.solves)) ∙ e ∙ at_b v (subst (Solves v) (sym is_n2) sol.solves)
+
+-- both ends are one place
+pub steps_one : (nodes : List Node) (list : List (Option ℕ)) (work : List Task) (left right : ℕ) → left ≡ right
+    → IsReady nodes list → AreInside (length nodes) work → Steps (λ v. v left ≡ v right) nodes nodes list work work
+steps_one nodes list work left right same ready inside = steps_none (λ v. v left ≡ v right) nodes list work ready inside (λ v sol. ap v same)
+
+pub steps_turned : (old new : List Node) (list : List (Option ℕ)) (work more : List Task) (left right : ℕ) → Steps (λ v. v right ≡ v left) old new list work more → Steps (λ v. v left ≡ v right) old new list work more
+steps_turned old new list work more left right = steps_when (λ v. v right ≡ v left) (λ v. v left ≡ v right) old new list work more (λ v sol e. sym e) (λ v sol e. sym e)

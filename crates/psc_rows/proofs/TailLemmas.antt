@@ -12,7 +12,7 @@ use Rattle.psc_graph.proofs.PushLemmas.{continued, agrees_continued, at_continue
 use Rattle.psc_rows.specs.declared.fields.Field.{Field}
 use Rattle.psc_rows.specs.Row.{row_of, Apart, IsTail, HeadsBelow}
 use Rattle.psc_rows.specs.Steps.{Steps, AreInside}
-use Rattle.psc_rows.proofs.RowLemmas.{row-exchange, rows-commute, row-agree, rest-kind, field-kind, row-field}
+use Rattle.psc_rows.proofs.RowLemmas.{row-exchange, rows-commute, row-agree, rest-kind, field-kind, row-field, no-rest}
 use Rattle.psc_rows.proofs.TaskLemmas.{steps_grow, agrees_more}
 
 tail_node : (v : ℕ → Tree) (nodes : List Node) (at : ℕ) (x : Field) (xs : List Field) (q : Tree) (node : Node) → slice_get nodes at ≡ Some node
@@ -146,3 +146,10 @@ module _ (old first second new : List Node) (list before : List (Option ℕ)) (o
           let l = e.1.0 ∙ left_value v (to_new.back v sol).solves in
           ap (row_of v one) l ∙ rows-commute v one two (v rest) apart ∙ ap (row_of v two) (sym r))
       (λ v sol same. shared_on v sol (row-exchange v one two (v left) (v right) apart same)))
+
+-- one tail is not two rows without a common label
+pub same_tail : (v : ℕ → Tree) (one two : List Field) (left right : ℕ) (x : Field) (xs : List Field) → one ≡ x ∷ xs → Apart one two → left ≡ right
+    → row_of v one (v left) ≡ row_of v two (v right) → ⊥
+same_tail v one two left right x xs is apart same e =
+    no-rest v x xs two (v left) (subst (λ l. Apart l two) is apart)
+    (sym (ap (λ l. row_of v l (v left)) is) ∙ e ∙ ap (λ k. row_of v two (v k)) (sym same))

@@ -64,14 +64,17 @@ pub fn relate_rows(
     let aligned = align(alloc, one.fields.as_slice(), two.fields.as_slice())?;
     add(work, Task::Merge(left, right))?;
     ask_pairs(graph, work, aligned.pairs.as_slice())?;
-    relate_tails(
+    match relate_tails(
         graph,
         work,
         aligned.left.as_slice(),
         aligned.right.as_slice(),
         one.tail,
         two.tail,
-    )
+    ) {
+        Ok(()) => Ok(()),
+        Err(stop) => Err(stop),
+    }
 }
 
 /// Whether a tail is an unknown row.
@@ -148,6 +151,12 @@ fn relate_tails(
         return Err(Stop::Memory);
     }
     if !are_heads_inside(graph.nodes.as_slice(), two) {
+        return Err(Stop::Memory);
+    }
+    if left >= graph.nodes.len() {
+        return Err(Stop::Memory);
+    }
+    if right >= graph.nodes.len() {
         return Err(Stop::Memory);
     }
     if is_without_fields(one) {

@@ -95,6 +95,44 @@ fn relate_formed(
     }
 }
 
+/// Solves one equation between two ends of links, or puts equations in its place.
+fn relate_ends(
+    alloc: Global,
+    graph: &mut Graph,
+    work: &mut Vec<Task>,
+    left: usize,
+    right: usize,
+    x: Node,
+    y: Node,
+) -> Result<(), Stop>
+    requires at_left { slice_get graph.old.nodes.items left ≡ Some x }
+    requires at_right { slice_get graph.old.nodes.items right ≡ Some y }
+    requires left_ends { (j : ℕ) → x ≡ Node.Link j → ⊥ }
+    requires right_ends { (j : ℕ) → y ≡ Node.Link j → ⊥ }
+    ensures steps { OnOk result (IsReady graph.old.nodes.items graph.old.kinds.items → AreInside (length graph.old.nodes.items) work.old.items → Steps (λ v. v left ≡ v right) graph.old.nodes.items graph.new.nodes.items graph.new.kinds.items work.old.items work.new.items) }
+    ensures clash { result ≡ Err Stop.Clash → IsReady graph.old.nodes.items graph.old.kinds.items → (v : ℕ → Tree) → IsSolution v graph.old.nodes.items → v left ≡ v right → ⊥ }
+{
+    if left == right {
+        return Ok(());
+    }
+    match x {
+        Node::Free(kind) => match graph.bind(alloc, left, kind, right, y) {
+            Ok(()) => Ok(()),
+            Err(stop) => Err(stop),
+        },
+        _ => match y {
+            Node::Free(kind) => match graph.bind(alloc, right, kind, left, x) {
+                Ok(()) => Ok(()),
+                Err(stop) => Err(stop),
+            },
+            _ => match relate_formed(alloc, graph, work, left, right, x, y) {
+                Ok(()) => Ok(()),
+                Err(stop) => Err(stop),
+            },
+        },
+    }
+}
+
 /// Solves one equation, or puts equations in its place.
 fn step(
     alloc: Global,
@@ -108,16 +146,10 @@ fn step(
 {
     let (left, x) = find(graph.nodes.as_slice(), a)?;
     let (right, y) = find(graph.nodes.as_slice(), b)?;
-    if left == right {
-        return Ok(());
+    match relate_ends(alloc, graph, work, left, right, x, y) {
+        Ok(()) => Ok(()),
+        Err(stop) => Err(stop),
     }
-    if let Node::Free(kind) = x {
-        return graph.bind(alloc, left, kind, right, y);
-    }
-    if let Node::Free(kind) = y {
-        return graph.bind(alloc, right, kind, left, x);
-    }
-    relate_formed(alloc, graph, work, left, right, x, y)
 }
 
 fn perform(alloc: Global, graph: &mut Graph, work: &mut Vec<Task>, task: Task) -> Result<(), Stop>
@@ -125,8 +157,14 @@ fn perform(alloc: Global, graph: &mut Graph, work: &mut Vec<Task>, task: Task) -
     ensures clash { result ≡ Err Stop.Clash → IsReady graph.old.nodes.items graph.old.kinds.items → (v : ℕ → Tree) → IsSolution v graph.old.nodes.items → Holds v task → ⊥ }
 {
     match task {
-        Task::Equal(a, b) => step(alloc, graph, work, a, b),
-        Task::Merge(a, b) => graph.merge(a, b),
+        Task::Equal(a, b) => match step(alloc, graph, work, a, b) {
+            Ok(()) => Ok(()),
+            Err(stop) => Err(stop),
+        },
+        Task::Merge(a, b) => match graph.merge(a, b) {
+            Ok(()) => Ok(()),
+            Err(_) => Err(Stop::Memory),
+        },
     }
 }
 
