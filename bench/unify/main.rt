@@ -55,7 +55,7 @@ fn row(alloc: Global, solver: &mut Solver) -> anyhow::Result<u64> {
 fn equal(alloc: Global, solver: &mut Solver, left: &Ty, right: &Ty) -> anyhow::Result<()> {
     match solver.equate(alloc, left, right)? {
         Ok(()) => Ok(()),
-        Err(_) => Err(anyhow::anyhow!(in alloc; "a clash")?),
+        Err(_) => Err(anyhow::anyhow!("a clash")),
     }
 }
 

@@ -1,8 +1,8 @@
 -- The steps for equations between nodes, put together.
 use Rattle.std.proofs.Math.Seq.{take-append_seam}
-use Rattle.std.proofs.Common.{ℕ, ◌≡◌, ◌≤◌, ◌<◌, Result, Ok, Err, OnOk, List, [], ◌∷◌, ◌++◌, append_assoc, take, length, Option, Some, slice_get, ap, refl, sym, ◌∙◌, subst}
+use Rattle.std.proofs.Common.{ℕ, ◌≡◌, ◌≤◌, ◌<◌, List, [], ◌∷◌, ◌++◌, append_assoc, take, length, Option, Some, slice_get, ap, refl, sym, ◌∙◌, subst}
 use Rattle.psc_graph.specs.Tree.{Tree, TAtom}
-use Rattle.psc_graph.specs.Model.{Solves, Equates}
+use Rattle.psc_graph.specs.Model.{Solves, Equates, Holds}
 use Rattle.psc_graph.specs.General.{IsSolution, IsReady}
 use Rattle.psc_graph.specs.declared.node.Node.{Node}
 use Rattle.psc_graph.specs.declared.node.Leaf.{Leaf}
@@ -94,11 +94,6 @@ steps_merged old s new kinds list is_s is_l long sound complete general work rea
     (λ v sol e. complete v (subst (IsSolution v) (sym is_s) sol))
     (general list (subst (λ n. IsReady n list) (sym is_s) (subst (IsReady old) (sym is_l) ready))) inside
 
--- a fact about each success that follows from another
-pub on-ok : {T E : Type 0} {A B : Type 0} (r : Result T E) → (A → B) → OnOk r A → OnOk r B
-on-ok (Ok x) f h = f h
-on-ok (Err e) f h = h
-
 -- the same, where calls had slices of the lists
 module _ (old new : List Node) (list : List (Option ℕ)) (work first asked more : List Task) (left right s t : ℕ) (one two xs ys : List Field) (pairs : List (ℕ × ℕ))
     (n1 n2 : List Node) (one' two' xs' ys' : List Field) (pairs' : List (ℕ × ℕ))
@@ -139,3 +134,8 @@ steps_one nodes list work left right same ready inside = steps_none (λ v. v lef
 
 pub steps_turned : (old new : List Node) (list : List (Option ℕ)) (work more : List Task) (left right : ℕ) → Steps (λ v. v right ≡ v left) old new list work more → Steps (λ v. v left ≡ v right) old new list work more
 steps_turned old new list work more left right = steps_when (λ v. v right ≡ v left) (λ v. v left ≡ v right) old new list work more (λ v sol e. sym e) (λ v sol e. sym e)
+
+-- what a task asks for is what an equal task asks for
+pub task_steps : (old new : List Node) (list : List (Option ℕ)) (work more : List Task) (task t : Task) → task ≡ t
+    → Steps (λ v. Holds v t) old new list work more → Steps (λ v. Holds v task) old new list work more
+task_steps old new list work more task t is steps = subst (λ u. Steps (λ v. Holds v u) old new list work more) (sym is) steps

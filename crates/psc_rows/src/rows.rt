@@ -160,10 +160,12 @@ fn relate_tails(
         return Err(Stop::Memory);
     }
     if is_without_fields(one) {
-        return extend_tail(graph, work, left, two, right);
+        extend_tail(graph, work, left, two, right)?;
+        return Ok(());
     }
     if is_without_fields(two) {
-        return extend_tail(graph, work, right, one, left);
+        extend_tail(graph, work, right, one, left)?;
+        return Ok(());
     }
     if left == right {
         return Err(Stop::Clash);

@@ -51,7 +51,10 @@ fn relate_leaves(
     if !is_same_leaf(x, y) {
         return Err(Stop::Clash);
     }
-    graph.merge(left, right)
+    match graph.merge(left, right) {
+        Ok(()) => Ok(()),
+        Err(stop) => Err(stop),
+    }
 }
 
 /// Solves one equation between two different ends, neither of which is free, or puts equations in
@@ -89,9 +92,40 @@ fn relate_formed(
             let Node::Atom(other) = y else {
                 return Err(Stop::Clash);
             };
-            relate_leaves(graph, left, right, leaf, other)
+            match relate_leaves(graph, left, right, leaf, other) {
+                Ok(()) => Ok(()),
+                Err(stop) => Err(stop),
+            }
         }
         Node::Free(_) | Node::Link(_) => Err(Stop::Memory),
+    }
+}
+
+/// Solves one equation between two different ends, of which the left one is not free, or puts equations
+/// in its place.
+fn relate_solid(
+    alloc: Global,
+    graph: &mut Graph,
+    work: &mut Vec<Task>,
+    left: usize,
+    right: usize,
+    x: Node,
+    y: Node,
+) -> Result<(), Stop>
+    requires at_left { slice_get graph.old.nodes.items left ≡ Some x }
+    requires at_right { slice_get graph.old.nodes.items right ≡ Some y }
+    requires apart { left ≡ right → ⊥ }
+    requires left_ends { (j : ℕ) → x ≡ Node.Link j → ⊥ }
+    requires right_ends { (j : ℕ) → y ≡ Node.Link j → ⊥ }
+    ensures steps { OnOk result (IsReady graph.old.nodes.items graph.old.kinds.items → AreInside (length graph.old.nodes.items) work.old.items → Steps (λ v. v left ≡ v right) graph.old.nodes.items graph.new.nodes.items graph.new.kinds.items work.old.items work.new.items) }
+    ensures clash { result ≡ Err Stop.Clash → IsReady graph.old.nodes.items graph.old.kinds.items → (v : ℕ → Tree) → IsSolution v graph.old.nodes.items → v left ≡ v right → ⊥ }
+{
+    match y {
+        Node::Free(kind) => match graph.bind(alloc, right, kind, left, x) {
+            Ok(()) => Ok(()),
+            Err(stop) => Err(stop),
+        },
+        _ => relate_formed(alloc, graph, work, left, right, x, y),
     }
 }
 
@@ -120,16 +154,7 @@ fn relate_ends(
             Ok(()) => Ok(()),
             Err(stop) => Err(stop),
         },
-        _ => match y {
-            Node::Free(kind) => match graph.bind(alloc, right, kind, left, x) {
-                Ok(()) => Ok(()),
-                Err(stop) => Err(stop),
-            },
-            _ => match relate_formed(alloc, graph, work, left, right, x, y) {
-                Ok(()) => Ok(()),
-                Err(stop) => Err(stop),
-            },
-        },
+        _ => relate_solid(alloc, graph, work, left, right, x, y),
     }
 }
 
@@ -163,7 +188,7 @@ fn perform(alloc: Global, graph: &mut Graph, work: &mut Vec<Task>, task: Task) -
         },
         Task::Merge(a, b) => match graph.merge(a, b) {
             Ok(()) => Ok(()),
-            Err(_) => Err(Stop::Memory),
+            Err(stop) => Err(stop),
         },
     }
 }

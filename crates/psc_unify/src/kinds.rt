@@ -1,6 +1,4 @@
 // Kinds by number. All kinds of rows count as one, which has the number 0.
-ghost use Rattle.std.specs.Prelude.{◌≡◌, OnOk, IfSome, slice_get, Some};
-ghost use Rattle.psc_unify.specs.Naming.{Extends, IsResult};
 
 use psc_items::Shared;
 use psc_text::NoMemory;
@@ -17,7 +15,7 @@ pub const STAR: u64 = 1;
 #[derive(Drop)]
 pub struct KindTable {
     kinds: Vec<Kind>,
-    pub results: Vec<u64>,
+    results: Vec<u64>,
 }
 
 /// Whether two kinds are one, where all kinds of rows count as one.
@@ -59,9 +57,7 @@ impl KindTable {
     }
 
     /// The number of a kind, which is a new one for a new kind.
-    pub fn number(&mut self, kind: &Kind) -> Result<u64, NoMemory>
-        ensures { OnOk result (Extends self.old.results.items self.new.results.items) }
-    {
+    pub fn number(&mut self, kind: &Kind) -> Result<u64, NoMemory> {
         if let Some(number) = self.find(kind) {
             return Ok(number);
         }
@@ -75,14 +71,11 @@ impl KindTable {
         Ok(number)
     }
 
-    /// The kind of an application of a type of this kind: `Type` where it is no arrow, and where the
-    /// type has no kind. None for a number that is no kind's.
-    pub fn result(&self, kind: Option<u64>) -> Option<u64>
-        ensures { IfSome result (λ r. IsResult self.now.results.items kind r) }
-    {
+    /// The kind of an application of a type of this kind: `Type` where it is no arrow.
+    pub fn result(&self, kind: Option<u64>) -> u64 {
         match kind {
-            None => Some(STAR),
-            Some(number) => self.results.get(number as usize).copied(),
+            None => STAR,
+            Some(number) => self.results.get(number as usize).copied().unwrap_or(STAR),
         }
     }
 

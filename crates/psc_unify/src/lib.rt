@@ -11,7 +11,6 @@ mod names;
 mod read;
 mod solver;
 mod state;
-mod tables;
 
 pub use solver::{Clash, Solver, TypeKind};
 

@@ -23,21 +23,19 @@ pub struct Reader {
 }
 
 fn read_constant(state: &State, number: u64) -> Result<Ty, NoMemory> {
-    let Some(row) = state.names.constants.get(number) else {
-        return Ok(Ty::RowNil);
-    };
-    match &row.0 {
-        Constant::Con(name) => Ok(Ty::Con(name.clone()?)),
-        Constant::Symbol(text) => Ok(Ty::Symbol(text.clone()?)),
-        Constant::EmptyRow => Ok(Ty::RowNil),
-        Constant::Any(kind) => Ok(Ty::Any(state.names.kinds.kind(*kind)?)),
+    match state.constants.get(number) {
+        Some(Constant::Con(name)) => Ok(Ty::Con(name.clone()?)),
+        Some(Constant::Symbol(text)) => Ok(Ty::Symbol(text.clone()?)),
+        Some(Constant::EmptyRow) => Ok(Ty::RowNil),
+        Some(Constant::Any(kind)) => Ok(Ty::Any(state.kinds.kind(*kind)?)),
+        None => Ok(Ty::RowNil),
     }
 }
 
 fn read_leaf(state: &State, leaf: Leaf) -> Result<Ty, NoMemory> {
     match leaf {
-        Leaf::Rigid(number, _) => match state.names.rigids.get(number) {
-            Some(row) => Ok(Ty::Var(row.0.clone()?)),
+        Leaf::Rigid(number, _) => match state.rigids.get(number) {
+            Some(name) => Ok(Ty::Var(name.clone()?)),
             None => Ok(Ty::RowNil),
         },
         Leaf::Constant(number, _) => read_constant(state, number),
@@ -107,7 +105,7 @@ impl Reader {
         let one = self.part(alloc, state, left)?;
         let two = self.part(alloc, state, right)?;
         match state.graph.nodes.get(at).copied() {
-            Some(Node::Field(label, _, _)) => match state.names.labels.get(label) {
+            Some(Node::Field(label, _, _)) => match state.labels.get(label) {
                 Some(name) => {
                     let ty = Ty::RowCons(name.clone()?, one, two);
                     self.keep(alloc, at, ty)

@@ -124,9 +124,8 @@ impl Solver {
     pub fn start(alloc: Global, kinds: &[TypeKind]) -> Result<Solver, NoMemory> {
         let mut state = State::new(alloc)?;
         for row in kinds {
-            let kind = state.names.kinds.number(&row.kind)?;
+            let kind = state.kinds.number(&row.kind)?;
             state
-                .names
                 .constants
                 .number(Constant::Con(row.name.clone()?), kind)?;
         }
@@ -149,8 +148,8 @@ impl Solver {
         let before = self.made;
         let text = format!(in alloc; "{}${}", name.0.as_str(), before)?;
         let made = Ident(Text::from_string(text)?);
-        let kind = self.state.names.kinds.number(&kind)?;
-        self.state.names.rigids.number(&made, kind)?;
+        let kind = self.state.kinds.number(&kind)?;
+        self.state.rigids.number(&made, kind)?;
         self.made = before.saturating_add(1);
         self.is_spent = false;
         Ok(made)
@@ -163,7 +162,7 @@ impl Solver {
             return Err(NoMemory);
         }
         self.is_spent = true;
-        let kind = self.state.names.kinds.number(&kind)?;
+        let kind = self.state.kinds.number(&kind)?;
         let bound = self
             .state
             .scope_number(alloc, scope.rigid.as_slice(), self.last_scope)?;

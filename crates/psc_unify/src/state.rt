@@ -1,8 +1,7 @@
 // What a solver has: the graph, the scopes of its unknowns, and the names of what stands in it.
 
-use crate::add::{known_place, push};
-use crate::kinds::STAR;
-use crate::tables::Names;
+use crate::kinds::{KindTable, STAR};
+use crate::names::{Classes, Constant, Constants, Labels, Rigids};
 use psc_graph::{Node, Stop};
 use psc_rows::Graph;
 use psc_scopes::{Bounds, ScopeTable};
@@ -17,7 +16,11 @@ pub struct State {
     pub graph: Graph,
     pub scopes: ScopeTable,
     pub bounds: Bounds,
-    pub names: Names,
+    pub kinds: KindTable,
+    pub constants: Constants,
+    pub rigids: Rigids,
+    pub labels: Labels,
+    pub classes: Classes,
     pub unknowns: Vec<usize>,
     pub numbers: BTreeMap<usize, u64>,
 }
@@ -33,20 +36,59 @@ impl State {
             graph: Graph::new(alloc),
             scopes: ScopeTable::new(alloc),
             bounds: Bounds::new(alloc),
-            names: Names::new(alloc)?,
+            kinds: KindTable::new(alloc)?,
+            constants: Constants::new(alloc),
+            rigids: Rigids::new(alloc),
+            labels: Labels::new(alloc),
+            classes: Classes::new(alloc),
             unknowns: Vec::new(alloc),
             numbers: BTreeMap::new(alloc),
         })
     }
 
+    /// Adds a node.
+    pub fn push(&mut self, node: Node) -> Result<usize, NoMemory> {
+        match self.graph.push(node) {
+            Ok(place) => Ok(place),
+            Err(stop) => Err(no_memory(stop)),
+        }
+    }
+
+    /// Adds a constant, which has the kind that is given if it is new.
+    pub fn push_constant(&mut self, constant: Constant, kind: u64) -> Result<usize, NoMemory> {
+        let (number, kind) = self.constants.number(constant, kind)?;
+        self.push(Node::Atom(psc_graph::Leaf::Constant(number, kind)))
+    }
+
+    /// Adds a rigid variable, which has the kind that is given if it is new.
+    pub fn push_rigid(&mut self, name: &Ident) -> Result<usize, NoMemory> {
+        let (number, kind) = self.rigids.number(name, STAR)?;
+        self.push(Node::Atom(psc_graph::Leaf::Rigid(number, kind)))
+    }
+
     /// The place of an unknown of this solver.
     pub fn known_place(&self, unknown: u64) -> Option<usize> {
-        known_place(&self.graph, self.unknowns.as_slice(), unknown)
+        if let Some(place) = self.unknowns.get(unknown as usize).copied() {
+            return Some(place);
+        }
+        let made = (u64::MAX - unknown) as usize;
+        if made < self.graph.nodes.len() {
+            return Some(made);
+        }
+        None
+    }
+
+    /// The place of an unknown. One that is not of this solver gets a node that no value shows.
+    pub fn place_of(&mut self, unknown: u64) -> Result<usize, NoMemory> {
+        if let Some(place) = self.known_place(unknown) {
+            return Ok(place);
+        }
+        self.push(Node::Free(STAR))
     }
 
     /// Adds an unknown, and gives its number.
     pub fn push_unknown(&mut self, kind: u64, scope: u64) -> Result<u64, NoMemory> {
-        let place = push(&mut self.graph, Node::Free(kind))?;
+        let place = self.push(Node::Free(kind))?;
         let number = self.unknowns.len() as u64;
         self.unknowns.push(place)?;
         self.numbers.insert(place, number)?;
@@ -75,7 +117,7 @@ impl State {
     ) -> Result<u64, NoMemory> {
         let mut list = Vec::new(alloc);
         for name in rigid {
-            let (number, _) = self.names.rigids.number(name, STAR)?;
+            let (number, _) = self.rigids.number(name, STAR)?;
             list.push(number)?;
         }
         list.sort()?;

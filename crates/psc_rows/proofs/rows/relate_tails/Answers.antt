@@ -1,14 +1,14 @@
 use Rattle.psc_rows.proofs.TailLemmas.{same_tail, left_open, right_open}
-use Rattle.psc_rows.proofs.StepLemmas.{on-ok, steps_bare_left, steps_bare_right}
+use Rattle.psc_rows.proofs.StepLemmas.{steps_bare_left, steps_bare_right}
 use Rattle.psc_rows.proofs.rows.relate_tails.Goals as goal
 
 pub returns-then-is_without_fields-clause-steps : goal.returns-then-is_without_fields-clause-steps
-returns-then-is_without_fields-clause-steps c =
-    on-ok _ (λ f ready inside. steps_bare_left _ _ _ _ _ c.args.one.now c.args.two.now c.args.left c.args.right (c.is_without_fields.ensures.none c.if-is_without_fields.true) (f ready inside)) c.extend_tail.ensures.steps
+returns-then-is_without_fields-clause-steps c = λ ready inside.
+    steps_bare_left _ _ _ _ _ c.args.one.now c.args.two.now c.args.left c.args.right (c.is_without_fields.ensures.none c.if-is_without_fields.true) (c.in_ok-extend_tail.ensures.steps ready inside)
 
 pub returns-then-is_without_fields-2-clause-steps : goal.returns-then-is_without_fields-2-clause-steps
-returns-then-is_without_fields-2-clause-steps c =
-    on-ok _ (λ f ready inside. steps_bare_right _ _ _ _ _ c.args.one.now c.args.two.now c.args.left c.args.right (c.is_without_fields-2.ensures.none c.if-is_without_fields-2.true) (f ready inside)) c.extend_tail-2.ensures.steps
+returns-then-is_without_fields-2-clause-steps c = λ ready inside.
+    steps_bare_right _ _ _ _ _ c.args.one.now c.args.two.now c.args.left c.args.right (c.is_without_fields-2.ensures.none c.if-is_without_fields-2.true) (c.in_ok-extend_tail-2.ensures.steps ready inside)
 
 pub returns-then-left-right-clause-clash : goal.returns-then-left-right-clause-clash
 returns-then-left-right-clause-clash c = λ e v sol same.

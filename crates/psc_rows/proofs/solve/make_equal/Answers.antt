@@ -1,8 +1,11 @@
+use Rattle.std.proofs.Common.{ap, ◌∙◌, ◌++◌, ◌∷◌, []}
+use Rattle.psc_graph.specs.declared.node.Task.TheVariants.{Equal}
 use Rattle.psc_rows.proofs.TaskLemmas.{steps_start, steps_chain, steps_taken, taken_inside}
 use Rattle.psc_rows.proofs.solve.make_equal.Goals as goal
 
 pub loop-init : goal.loop-init
-loop-init c = λ ready. steps_start _ _ _ _ _ ? ready ?
+loop-init c = λ ready.
+    steps_start _ _ _ _ _ (c.in_ok-ask.ensures.asked ∙ ap (λ l. l ++ Equal c.args.a c.args.b ∷ []) c.new-work.ensures.items) ready c.in_ok-ask.ensures.inside
 
 pub loop-preserved : goal.loop-preserved
 loop-preserved c = λ ready.
