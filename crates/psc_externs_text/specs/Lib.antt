@@ -1,0 +1,5 @@
+pub mod Meant
+pub mod Rows
+pub mod Texts
+pub mod Values
+pub mod Words
