@@ -7,6 +7,8 @@
 
 mod expanding;
 mod head;
+#[cfg(test)]
+mod tests;
 mod unfolding;
 
 pub use head::Prepared;

@@ -11,6 +11,8 @@ mod nodes;
 mod rows;
 mod scheme;
 mod synonyms;
+#[cfg(test)]
+mod tests;
 mod ty;
 mod vars;
 
