@@ -36,3 +36,5 @@ pub head-Given : (table : List Prepared) (c : Constraint) (b : Ty) → head tabl
 head-Given table c b = search (rules, the_lemmas)
 
 pub ruleset heads = (head-Given)
+
+pub ruleset turns = (onto-turn, onto-fault, parts-nil)

@@ -116,6 +116,7 @@ fn constraint(
 }
 
 #[cycle(expand)]
+#[tactic(auto, using(crate::proofs::ExpandRules::turns))]
 fn parts(
     alloc: Global,
     args: &[Ty],

@@ -1,5 +1,4 @@
 pub mod Meant
 pub mod Rows
 pub mod Texts
-pub mod Values
 pub mod Words

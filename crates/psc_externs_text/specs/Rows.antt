@@ -31,23 +31,20 @@ use Rattle.psc_externs_text.specs.Words.{words, kind_words, constraint_words}
 abbrev pub count : ℕ → Data
 count n = number (unsigned n)
 
-abbrev pub list : List Data → Data
-list ds = array (items_of ds)
-
 abbrev pub list_of : {A : Type 0} → (A → Data) → List A → Data
-list_of f xs = list (map f xs)
+list_of f xs = array (items_of (map f xs))
 
 abbrev pub pair : Data → Data → Data
 pair a b = array (item a (item b no_items))
 
 abbrev pub kind : Kind → Data
-kind k = list (kind_words k)
+kind k = list_of string (kind_words k)
 
 abbrev pub type_of : Ty → Data
-type_of t = list (words t)
+type_of t = list_of string (words t)
 
 abbrev pub constraint : Constraint → Data
-constraint c = list (constraint_words c)
+constraint c = list_of string (constraint_words c)
 
 -- a name of another module stands behind its module and a dot
 abbrev pub true_name_text : TrueName → List ℕ

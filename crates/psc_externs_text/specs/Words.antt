@@ -1,6 +1,5 @@
--- Types and kinds as lists of words, which are JSON texts, each form before its parts.
+-- Types and kinds as lists of words, each form before its parts.
 use Rattle.std.specs.Prelude.{ℕ, List, [], ◌∷◌, ◌++◌, Option, Some, None, map, codes}
-use Rattle.serde_json.specs.Data.{Data, string}
 use Rattle.psc_text.specs.declared.names.Qualified.{Qualified}
 use Rattle.psc_type.specs.declared.kind.Kind.{Kind}
 use Rattle.psc_type.specs.declared.kind.Kind.TheOpen.{Kind-F}
@@ -11,11 +10,11 @@ use Rattle.psc_type.specs.declared.ty.Ty.TheOpen.{Ty-F}
 use Rattle.psc_type.specs.declared.ty.Ty.TheFolds.{fold-Ty}
 
 abbrev pub Words : Type 0
-Words = List Data
+Words = List (List ℕ)
 
 -- one word: what it is, and a name or a text where it has one
 abbrev pub word : List ℕ → List ℕ → Words
-word front name = string (front ++ name) ∷ []
+word front name = (front ++ name) ∷ []
 
 unfoldable pub first : List ℕ → List ℕ → Words → Words
 first front name rest = word front name ++ rest

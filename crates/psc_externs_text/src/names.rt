@@ -27,6 +27,23 @@ impl Row for Name {
     }
 }
 
+impl Row for Text {
+    ghost use Rattle.serde_json.specs.Data.{string};
+
+    ghost json = { λ t. string t };
+
+    fn value(&self, alloc: Global) -> Result<Value, NoMemory> {
+        Ok(Value::String(String::from_str(alloc, self.as_str())?))
+    }
+
+    fn read(alloc: Global, value: &Value) -> Result<Option<Text>, NoMemory> {
+        match value.as_str() {
+            Some(text) => Ok(Some(Text::new(alloc, text)?)),
+            None => Ok(None),
+        }
+    }
+}
+
 impl Row for ModuleName {
     ghost use Rattle.serde_json.specs.Data.{string};
 

@@ -26,6 +26,7 @@ pub(crate) trait Row: Drop {
 }
 
 /// A list as a JSON array.
+#[tactic(auto, using(crate::proofs::Lists::pushes))]
 pub(crate) fn list_value<T: Row>(alloc: Global, rows: &[T]) -> Result<Value, NoMemory>
     ensures text { IfOk result (λ v. view v ≡ list_of T.json rows.now) }
     ensures plain { IfOk result (λ v. has_float (view v) ≡ false) }

@@ -2,7 +2,7 @@
 
 ghost use Rattle.std.specs.Prelude.{◌≡◌, IfOk};
 
-use crate::row::Row;
+use crate::row::{Row, list_value};
 use crate::words::{put_constraint, put_kind, put_type};
 use crate::words_read::{read_constraint, read_kind, read_type};
 use psc_externs::{ExternConstraint, ExternKind, ExternType};
@@ -18,7 +18,7 @@ impl Row for ExternType {
     fn value(&self, alloc: Global) -> Result<Value, NoMemory> {
         let mut words = Vec::new(alloc);
         put_type(alloc, &mut words, self.ty())?;
-        Ok(Value::Array(words))
+        list_value(alloc, words.as_slice())
     }
 
     fn read(alloc: Global, value: &Value) -> Result<Option<ExternType>, NoMemory> {
@@ -37,7 +37,7 @@ impl Row for ExternKind {
     fn value(&self, alloc: Global) -> Result<Value, NoMemory> {
         let mut words = Vec::new(alloc);
         put_kind(alloc, &mut words, self.kind())?;
-        Ok(Value::Array(words))
+        list_value(alloc, words.as_slice())
     }
 
     fn read(alloc: Global, value: &Value) -> Result<Option<ExternKind>, NoMemory> {
@@ -56,7 +56,7 @@ impl Row for ExternConstraint {
     fn value(&self, alloc: Global) -> Result<Value, NoMemory> {
         let mut words = Vec::new(alloc);
         put_constraint(alloc, &mut words, self.constraint())?;
-        Ok(Value::Array(words))
+        list_value(alloc, words.as_slice())
     }
 
     fn read(alloc: Global, value: &Value) -> Result<Option<ExternConstraint>, NoMemory> {

@@ -3,11 +3,9 @@
 ghost use Rattle.std.specs.Prelude.{◌≡◌, ◌++◌, [], IfOk, map, codes};
 ghost use Rattle.std.specs.String.{string_bytes};
 ghost use Rattle.psc_externs_text.specs.Words as spec;
-ghost use Rattle.psc_externs_text.specs.Values.{views};
 
-use psc_text::{Ident, Label, NoMemory, Qualified};
+use psc_text::{Ident, NoMemory, Qualified, Text};
 use psc_type::{Constraint, Kind, Ty};
-use serde_json::Value;
 use std::alloc::Global;
 
 /// A name behind its module and a dot.
@@ -21,15 +19,15 @@ pub(crate) fn qualified_text(alloc: Global, name: &Qualified) -> Result<String, 
 }
 
 /// Appends one word: what it is, and a name or a text where it has one.
-fn put_word(alloc: Global, out: &mut Vec<Value>, front: &str, name: &str) -> Result<(), NoMemory>
-    ensures { IfOk result (λ _. views out.new.items ≡ views out.old.items ++ spec.word front.now name.now) }
+fn put_word(alloc: Global, out: &mut Vec<Text>, front: &str, name: &str) -> Result<(), NoMemory>
+    ensures { IfOk result (λ _. out.new.items ≡ out.old.items ++ spec.word front.now name.now) }
 {
     let text = format!(in alloc; "{}{}", front, name)?;
-    Ok(out.push(Value::String(text))?)
+    Ok(out.push(Text::from_string(text)?)?)
 }
 
-fn put_name(alloc: Global, out: &mut Vec<Value>, name: &Qualified) -> Result<(), NoMemory>
-    ensures { IfOk result (λ _. views out.new.items ≡ views out.old.items ++ (spec.word (codes "con ") (spec.qualified_text name.now))) }
+fn put_name(alloc: Global, out: &mut Vec<Text>, name: &Qualified) -> Result<(), NoMemory>
+    ensures { IfOk result (λ _. out.new.items ≡ out.old.items ++ (spec.word (codes "con ") (spec.qualified_text name.now))) }
 {
     let text = qualified_text(alloc, name)?;
     put_word(alloc, out, "con ", text.as_str())
@@ -37,8 +35,8 @@ fn put_name(alloc: Global, out: &mut Vec<Value>, name: &Qualified) -> Result<(),
 
 /// Appends the words of a kind that has no unknown.
 #[cycle(kinds)]
-pub(crate) fn put_kind(alloc: Global, out: &mut Vec<Value>, kind: &Kind) -> Result<(), NoMemory>
-    ensures { IfOk result (λ _. views out.new.items ≡ views out.old.items ++ (spec.kind_words kind.now)) }
+pub(crate) fn put_kind(alloc: Global, out: &mut Vec<Text>, kind: &Kind) -> Result<(), NoMemory>
+    ensures { IfOk result (λ _. out.new.items ≡ out.old.items ++ (spec.kind_words kind.now)) }
 {
     match kind {
         Kind::Star => put_word(alloc, out, "T", ""),
@@ -56,11 +54,11 @@ pub(crate) fn put_kind(alloc: Global, out: &mut Vec<Value>, kind: &Kind) -> Resu
 #[cycle(kinds)]
 fn put_before_kind(
     alloc: Global,
-    out: &mut Vec<Value>,
+    out: &mut Vec<Text>,
     front: &str,
     kind: &Kind,
 ) -> Result<(), NoMemory>
-    ensures { IfOk result (λ _. views out.new.items ≡ views out.old.items ++ (spec.first front.now [] (spec.kind_words kind.now))) }
+    ensures { IfOk result (λ _. out.new.items ≡ out.old.items ++ (spec.first front.now [] (spec.kind_words kind.now))) }
 {
     put_word(alloc, out, front, "")?;
     put_kind(alloc, out, kind)
@@ -69,8 +67,8 @@ fn put_before_kind(
 /// Appends the words of a type that has no unknown and no `$any`.
 #[cycle(words)]
 #[tactic(auto, using(crate::proofs::WordRules::words_rules))]
-pub(crate) fn put_type(alloc: Global, out: &mut Vec<Value>, ty: &Ty) -> Result<(), NoMemory>
-    ensures { IfOk result (λ _. views out.new.items ≡ views out.old.items ++ (spec.words ty.now)) }
+pub(crate) fn put_type(alloc: Global, out: &mut Vec<Text>, ty: &Ty) -> Result<(), NoMemory>
+    ensures { IfOk result (λ _. out.new.items ≡ out.old.items ++ (spec.words ty.now)) }
 {
     match ty {
         Ty::Var(name) => put_word(alloc, out, "var ", name.0.as_str()),
@@ -100,12 +98,12 @@ pub(crate) fn put_type(alloc: Global, out: &mut Vec<Value>, ty: &Ty) -> Result<(
 #[cycle(words)]
 fn put_before_type(
     alloc: Global,
-    out: &mut Vec<Value>,
+    out: &mut Vec<Text>,
     front: &str,
     name: &str,
     ty: &Ty,
 ) -> Result<(), NoMemory>
-    ensures { IfOk result (λ _. views out.new.items ≡ views out.old.items ++ (spec.first front.now name.now (spec.words ty.now))) }
+    ensures { IfOk result (λ _. out.new.items ≡ out.old.items ++ (spec.first front.now name.now (spec.words ty.now))) }
 {
     put_word(alloc, out, front, name)?;
     put_type(alloc, out, ty)
@@ -113,19 +111,19 @@ fn put_before_type(
 
 fn put_quantifier(
     alloc: Global,
-    out: &mut Vec<Value>,
+    out: &mut Vec<Text>,
     name: &Ident,
     kind: &Kind,
 ) -> Result<(), NoMemory>
-    ensures { IfOk result (λ _. views out.new.items ≡ views out.old.items ++ (spec.first (codes "forall ") name.now.0 (spec.kind_words kind.now))) }
+    ensures { IfOk result (λ _. out.new.items ≡ out.old.items ++ (spec.first (codes "forall ") name.now.0 (spec.kind_words kind.now))) }
 {
     put_word(alloc, out, "forall ", name.0.as_str())?;
     put_kind(alloc, out, kind)
 }
 
 #[cycle(words)]
-fn put_given(alloc: Global, out: &mut Vec<Value>, given: &Constraint) -> Result<(), NoMemory>
-    ensures { IfOk result (λ _. views out.new.items ≡ views out.old.items ++ (spec.first (codes "given") [] (spec.constraint_words given.now))) }
+fn put_given(alloc: Global, out: &mut Vec<Text>, given: &Constraint) -> Result<(), NoMemory>
+    ensures { IfOk result (λ _. out.new.items ≡ out.old.items ++ (spec.first (codes "given") [] (spec.constraint_words given.now))) }
 {
     put_word(alloc, out, "given", "")?;
     put_constraint(alloc, out, given)
@@ -135,10 +133,10 @@ fn put_given(alloc: Global, out: &mut Vec<Value>, given: &Constraint) -> Result<
 #[cycle(words)]
 pub(crate) fn put_constraint(
     alloc: Global,
-    out: &mut Vec<Value>,
+    out: &mut Vec<Text>,
     given: &Constraint,
 ) -> Result<(), NoMemory>
-    ensures { IfOk result (λ _. views out.new.items ≡ views out.old.items ++ (spec.constraint_words given.now)) }
+    ensures { IfOk result (λ _. out.new.items ≡ out.old.items ++ (spec.constraint_words given.now)) }
 {
     put_apps(alloc, out, given.args.as_slice())?;
     put_name(alloc, out, &given.class)?;
@@ -146,8 +144,8 @@ pub(crate) fn put_constraint(
 }
 
 #[tactic(auto, unfolding(crate::specs::Words::apps))]
-fn put_apps(alloc: Global, out: &mut Vec<Value>, args: &[Ty]) -> Result<(), NoMemory>
-    ensures { IfOk result (λ _. views out.new.items ≡ views out.old.items ++ (spec.apps args.now)) }
+fn put_apps(alloc: Global, out: &mut Vec<Text>, args: &[Ty]) -> Result<(), NoMemory>
+    ensures { IfOk result (λ _. out.new.items ≡ out.old.items ++ (spec.apps args.now)) }
 {
     for _arg in args {
         put_word(alloc, out, "app", "")?;
@@ -157,8 +155,8 @@ fn put_apps(alloc: Global, out: &mut Vec<Value>, args: &[Ty]) -> Result<(), NoMe
 
 #[cycle(words)]
 #[tactic(auto, unfolding(crate::specs::Words::concatenated))]
-fn put_types(alloc: Global, out: &mut Vec<Value>, args: &[Ty]) -> Result<(), NoMemory>
-    ensures { IfOk result (λ _. views out.new.items ≡ views out.old.items ++ (spec.concatenated (map spec.words args.now))) }
+fn put_types(alloc: Global, out: &mut Vec<Text>, args: &[Ty]) -> Result<(), NoMemory>
+    ensures { IfOk result (λ _. out.new.items ≡ out.old.items ++ (spec.concatenated (map spec.words args.now))) }
 {
     for arg in args {
         put_type(alloc, out, arg)?;

@@ -20,8 +20,8 @@ pub record Shown : Type 0 where
   pub part : List ℕ
   pub whole : List ℕ
 
-abbrev pub shown : Shape → List ℕ → Shown
-shown s text = record { shape = s; part = []; whole = text }
+abbrev pub showing : Shape → List ℕ → Shown
+showing s text = record { shape = s; part = []; whole = text }
 
 unfoldable pub closed : List ℕ → List ℕ
 closed text = codes "(" ++ text ++ codes ")"
@@ -105,16 +105,16 @@ abbrev pub application_text : Shown → Shown → List ℕ
 application_text f a = if is_record f.shape then record_of a else (if is_from f.shape then f.part ++ a.whole else function_of f.whole ++ argument a)
 
 abbrev pub type_step : Ty-F Shown (List ℕ) → Shown
-type_step (Ty-F.Var name) = shown Atom (variable name)
-type_step (Ty-F.Unknown n) = shown Atom (codes "_")
-type_step (Ty-F.Con name) = shown (shape_of_name name) name.name
+type_step (Ty-F.Var name) = showing Atom (variable name)
+type_step (Ty-F.Unknown n) = showing Atom (codes "_")
+type_step (Ty-F.Con name) = showing (shape_of_name name) name.name
 type_step (Ty-F.App f a) = record { shape = applied f.shape; part = application_part f a; whole = application_text f a }
 type_step (Ty-F.Forall name k t) = record { shape = Quantified; part = variable name ++ behind_variable t; whole = forall_of (variable name ++ behind_variable t) }
-type_step (Ty-F.Given c t) = shown Constrained (context_of c ++ t.whole)
+type_step (Ty-F.Given c t) = showing Constrained (context_of c ++ t.whole)
 type_step (Ty-F.RowCons l t more) = record { shape = Labels; part = labels_of l t more; whole = row (labels_of l t more) }
-type_step Ty-F.RowNil = shown Empty (codes "()")
-type_step (Ty-F.Symbol text) = shown Atom (string text)
-type_step (Ty-F.Any k) = shown Atom (codes "_")
+type_step Ty-F.RowNil = showing Empty (codes "()")
+type_step (Ty-F.Symbol text) = showing Atom (string text)
+type_step (Ty-F.Any k) = showing Atom (codes "_")
 
 abbrev pub show : Ty → Shown
 show = fold-Ty Shown (List ℕ) type_step (λ c. constraint_of c.class c.args)

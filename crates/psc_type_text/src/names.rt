@@ -1,7 +1,8 @@
 //! Names of variables and labels.
 
-ghost use Rattle.std.specs.Prelude.{◌≡◌, ◌++◌, IfOk};
+ghost use Rattle.std.specs.Prelude.{◌≡◌, ◌++◌, ◌==◌, true, IfOk};
 ghost use Rattle.std.specs.String.{string_bytes};
+ghost use Rattle.std.specs.Char.{encode_utf8};
 ghost use Rattle.std.specs.Str.{chars};
 ghost use Rattle.psc_type_text.specs.Names as spec;
 
@@ -16,14 +17,27 @@ pub(crate) fn put_variable(out: &mut String, name: &Ident) -> Result<(), NoMemor
     put_front(out, name.0.as_str())
 }
 
+/// Whether a name's number begins at the letter.
+fn is_end(letter: char) -> bool
+    ensures { result ≡ (letter == 36) }
+{
+    letter == '$'
+}
+
+fn put_letter(out: &mut String, letter: char) -> Result<(), NoMemory>
+    ensures { IfOk result (λ _. string_bytes out.new ≡ string_bytes out.old ++ encode_utf8 letter) }
+{
+    Ok(out.push(letter)?)
+}
+
 fn put_front(out: &mut String, text: &str) -> Result<(), NoMemory>
     ensures { IfOk result (λ _. string_bytes out.new ≡ string_bytes out.old ++ spec.front (chars text.now)) }
 {
     for letter in text.chars() {
-        if letter == '$' {
+        if is_end(letter) {
             return Ok(());
         }
-        out.push(letter)?;
+        put_letter(out, letter)?;
     }
     Ok(())
 }
@@ -54,10 +68,11 @@ fn is_spelled_lower(text: &str) -> bool
 {
     let mut first = true;
     for letter in text.chars() {
-        if !fits(first, letter) {
+        if fits(first, letter) {
+            first = false;
+        } else {
             return false;
         }
-        first = false;
     }
     !first
 }

@@ -10,7 +10,13 @@ loop-letter-preserved c =
     let held = c.loop-letter.invariant in
     let parts = c.in-Some.ensures.steps.0 in
     let letters = chars_past_char _ _ c.in-Some.letter held.0 parts in
-    (IsUtf8-past_char _ _ c.in-Some.letter held.0 parts, sym (spelled-goes_on _ _ _ _ letters ?) ∙ held.1)
+    (IsUtf8-past_char _ _ c.in-Some.letter held.0 parts, sym (spelled-goes_on _ _ _ _ letters (sym c.fits.ensures ∙ c.if-fits.true)) ∙ held.1)
+
+pub returns-else-fits : goal.returns-else-fits
+returns-else-fits c =
+    let held = c.loop-letter.invariant in
+    let letters = chars_past_char _ _ c.in-Some.letter held.0 c.in-Some.ensures.steps.0 in
+    sym (spelled-stops _ _ _ _ letters (sym c.fits.ensures ∙ c.if-fits.false)) ∙ held.1
 
 pub returns : goal.returns
 returns c =

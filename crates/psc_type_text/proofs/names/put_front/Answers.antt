@@ -10,7 +10,13 @@ loop-letter-preserved c =
     let held = c.loop-letter.invariant in
     let parts = c.in-Some.ensures.steps.0 in
     let letters = chars_past_char _ _ c.in-Some.letter held.0 parts in
-    (IsUtf8-past_char _ _ c.in-Some.letter held.0 parts, front-goes_on _ _ _ _ _ letters ? c.in_ok-push.ensures ∙ held.1)
+    (IsUtf8-past_char _ _ c.in-Some.letter held.0 parts, front-goes_on _ _ _ _ _ letters (sym c.is_end.ensures ∙ c.if-is_end.false) c.in_ok-put_letter.ensures ∙ held.1)
+
+pub returns-then-is_end : goal.returns-then-is_end
+returns-then-is_end c =
+    let held = c.loop-letter.invariant in
+    let letters = chars_past_char _ _ c.in-Some.letter held.0 c.in-Some.ensures.steps.0 in
+    front-stops _ _ _ _ _ letters (sym c.is_end.ensures ∙ c.if-is_end.true) held.1
 
 pub returns : goal.returns
 returns c =
