@@ -14,21 +14,21 @@ use std::alloc::Global;
 
 #[derive(Drop)]
 enum Item {
-    Kind(Kind),
-    Type(Ty),
+    OfKind(Kind),
+    OfType(Ty),
 }
 
 fn pop_kind(stack: &mut Vec<Item>) -> Option<Kind> {
     match stack.pop()? {
-        Item::Kind(kind) => Some(kind),
-        Item::Type(_) => None,
+        Item::OfKind(kind) => Some(kind),
+        Item::OfType(_) => None,
     }
 }
 
 fn pop_type(stack: &mut Vec<Item>) -> Option<Ty> {
     match stack.pop()? {
-        Item::Type(ty) => Some(ty),
-        Item::Kind(_) => None,
+        Item::OfType(ty) => Some(ty),
+        Item::OfKind(_) => None,
     }
 }
 
@@ -75,7 +75,7 @@ fn class_of(ty: &Ty, args: &mut Vec<Ty>) -> Result<Option<Qualified>, NoMemory> 
 
 fn row_kind(alloc: Global, stack: &mut Vec<Item>) -> Result<Option<Item>, NoMemory> {
     match pop_kind(stack) {
-        Some(of) => Ok(Some(Item::Kind(Kind::RowOf(Shared::new(alloc, of)?)))),
+        Some(of) => Ok(Some(Item::OfKind(Kind::RowOf(Shared::new(alloc, of)?)))),
         None => Ok(None),
     }
 }
@@ -84,7 +84,7 @@ fn arrow_kind(alloc: Global, stack: &mut Vec<Item>) -> Result<Option<Item>, NoMe
     match (pop_kind(stack), pop_kind(stack)) {
         (Some(from), Some(to)) => {
             let from = Shared::new(alloc, from)?;
-            Ok(Some(Item::Kind(Kind::Arrow(from, Shared::new(alloc, to)?))))
+            Ok(Some(Item::OfKind(Kind::Arrow(from, Shared::new(alloc, to)?))))
         }
         _ => Ok(None),
     }
@@ -94,7 +94,7 @@ fn application(alloc: Global, stack: &mut Vec<Item>) -> Result<Option<Item>, NoM
     match (pop_type(stack), pop_type(stack)) {
         (Some(function), Some(argument)) => {
             let function = Shared::new(alloc, function)?;
-            Ok(Some(Item::Type(Ty::App(function, Shared::new(alloc, argument)?))))
+            Ok(Some(Item::OfType(Ty::App(function, Shared::new(alloc, argument)?))))
         }
         _ => Ok(None),
     }
@@ -103,7 +103,7 @@ fn application(alloc: Global, stack: &mut Vec<Item>) -> Result<Option<Item>, NoM
 fn constrained(alloc: Global, stack: &mut Vec<Item>) -> Result<Option<Item>, NoMemory> {
     match (pop_type(stack), pop_type(stack)) {
         (Some(given), Some(body)) => match constraint_of(alloc, &given)? {
-            Some(given) => Ok(Some(Item::Type(Ty::Given(given, Shared::new(alloc, body)?)))),
+            Some(given) => Ok(Some(Item::OfType(Ty::Given(given, Shared::new(alloc, body)?)))),
             None => Ok(None),
         },
         _ => Ok(None),
@@ -114,7 +114,7 @@ fn quantified(alloc: Global, stack: &mut Vec<Item>, name: &str) -> Result<Option
     match (pop_kind(stack), pop_type(stack)) {
         (Some(kind), Some(body)) => {
             let name = Ident(Text::new(alloc, name)?);
-            Ok(Some(Item::Type(Ty::Forall(name, kind, Shared::new(alloc, body)?))))
+            Ok(Some(Item::OfType(Ty::Forall(name, kind, Shared::new(alloc, body)?))))
         }
         _ => Ok(None),
     }
@@ -125,7 +125,7 @@ fn labelled(alloc: Global, stack: &mut Vec<Item>, label: &str) -> Result<Option<
         (Some(first), Some(rest)) => {
             let label = Label(Text::new(alloc, label)?);
             let first = Shared::new(alloc, first)?;
-            Ok(Some(Item::Type(Ty::RowCons(label, first, Shared::new(alloc, rest)?))))
+            Ok(Some(Item::OfType(Ty::RowCons(label, first, Shared::new(alloc, rest)?))))
         }
         _ => Ok(None),
     }
@@ -133,7 +133,7 @@ fn labelled(alloc: Global, stack: &mut Vec<Item>, label: &str) -> Result<Option<
 
 fn constructor(alloc: Global, text: &str) -> Result<Option<Item>, NoMemory> {
     match qualified(alloc, text)? {
-        Some(name) => Ok(Some(Item::Type(Ty::Con(name)))),
+        Some(name) => Ok(Some(Item::OfType(Ty::Con(name)))),
         None => Ok(None),
     }
 }
@@ -146,24 +146,24 @@ fn named(
     name: &str,
 ) -> Result<Option<Item>, NoMemory> {
     match front {
-        "var" => Ok(Some(Item::Type(Ty::Var(Ident(Text::new(alloc, name)?))))),
+        "var" => Ok(Some(Item::OfType(Ty::Var(Ident(Text::new(alloc, name)?))))),
         "con" => constructor(alloc, name),
         "forall" => quantified(alloc, stack, name),
         "row" => labelled(alloc, stack, name),
-        "sym" => Ok(Some(Item::Type(Ty::Symbol(Text::new(alloc, name)?)))),
+        "sym" => Ok(Some(Item::OfType(Ty::Symbol(Text::new(alloc, name)?)))),
         _ => Ok(None),
     }
 }
 
 /// What a word makes, with its parts from the stack.
-fn item(alloc: Global, stack: &mut Vec<Item>, word: &str) -> Result<Option<Item>, NoMemory> {
+fn made_by(alloc: Global, stack: &mut Vec<Item>, word: &str) -> Result<Option<Item>, NoMemory> {
     match word {
-        "nil" => Ok(Some(Item::Type(Ty::RowNil))),
+        "nil" => Ok(Some(Item::OfType(Ty::RowNil))),
         "app" => application(alloc, stack),
         "given" => constrained(alloc, stack),
-        "T" => Ok(Some(Item::Kind(Kind::Star))),
-        "C" => Ok(Some(Item::Kind(Kind::Constr))),
-        "S" => Ok(Some(Item::Kind(Kind::Sym))),
+        "T" => Ok(Some(Item::OfKind(Kind::Star))),
+        "C" => Ok(Some(Item::OfKind(Kind::Constr))),
+        "S" => Ok(Some(Item::OfKind(Kind::Sym))),
         "R" => row_kind(alloc, stack),
         "F" => arrow_kind(alloc, stack),
         _ => match word.split_once(' ') {
@@ -186,8 +186,8 @@ fn read_words(alloc: Global, value: &Value) -> Result<Option<Item>, NoMemory> {
         let Some(word) = word.as_str() else {
             return Ok(None);
         };
-        match item(alloc, &mut stack, word)? {
-            Some(item) => stack.push(item)?,
+        match made_by(alloc, &mut stack, word)? {
+            Some(made) => stack.push(made)?,
             None => return Ok(None),
         }
     }
@@ -201,7 +201,7 @@ fn read_words(alloc: Global, value: &Value) -> Result<Option<Item>, NoMemory> {
 /// The type that the words spell.
 pub(crate) fn read_type(alloc: Global, value: &Value) -> Result<Option<Ty>, NoMemory> {
     match read_words(alloc, value)? {
-        Some(Item::Type(ty)) => Ok(Some(ty)),
+        Some(Item::OfType(ty)) => Ok(Some(ty)),
         _ => Ok(None),
     }
 }
@@ -209,7 +209,7 @@ pub(crate) fn read_type(alloc: Global, value: &Value) -> Result<Option<Ty>, NoMe
 /// The kind that the words spell.
 pub(crate) fn read_kind(alloc: Global, value: &Value) -> Result<Option<Kind>, NoMemory> {
     match read_words(alloc, value)? {
-        Some(Item::Kind(kind)) => Ok(Some(kind)),
+        Some(Item::OfKind(kind)) => Ok(Some(kind)),
         _ => Ok(None),
     }
 }

@@ -1,9 +1,10 @@
 -- What free variables and substitution give at each form.
-use Rattle.std.proofs.Common.{◌≡◌, ℕ, zero, suc, ◌-◌, Bool, true, false, ◌||◌, List, [], ◌∷◌, map, refl, ap, ◌∙◌, rules, if◌then◌else◌}
+use Rattle.std.proofs.Common.{◌≡◌, ◌≢◌, ℕ, zero, suc, ◌-◌, arith, Bool, true, false, ◌||◌, List, [], ◌∷◌, map, refl, ap, ◌∙◌, rules, if◌then◌else◌}
 use Rattle.std.specs.List.{list_any}
 use Rattle.psc_text.specs.declared.names.Ident.{Ident}
 use Rattle.psc_type.specs.declared.vars.Replaced.{Replaced}
-use Rattle.psc_type.specs.Vars.{any_true, is_free, is_taken, fresh, fresh_name, primed, all_under, put_in, constraint_in}
+use Rattle.psc_type.specs.Vars.{any_true, is_free, is_taken, fresh, fresh_name, primed, all_under, put_in, constraint_in, bound}
+use Rattle.psc_type.specs.declared.kind.Kind.{Kind}
 use Rattle.psc_type.specs.declared.ty.Constraint.{Constraint}
 use Rattle.psc_type.specs.declared.ty.Ty.{Ty, the_lemmas}
 use Rattle.psc_type.specs.declared.ty.Ty.TheVariants as ty
@@ -20,25 +21,33 @@ is_free-Given name c b =
 
 pub ruleset is_free_rules = (is_free-Given)
 
-pub fresh-none : (name : Ident) (whole : Ty) (env : List Replaced) → fresh 0 name whole env ≡ name
-unfolding fresh
-fresh-none name whole env = refl
-
 fresh-suc : (n : ℕ) (name : Ident) (whole : Ty) (env : List Replaced) → fresh (suc n) name whole env ≡ (if is_taken name whole env then fresh n (primed name) whole env else name)
 unfolding fresh
 fresh-suc n name whole env = refl
 
-pub fresh-taken : (n m : ℕ) (name : Ident) (whole : Ty) (env : List Replaced) → n ≡ suc m → is_taken name whole env ≡ true → fresh n name whole env ≡ fresh m (primed name) whole env
-fresh-taken n m name whole env e h = ap (λ k. fresh k name whole env) e ∙ (fresh-suc m name whole env ∙ ap (λ b. if b then fresh m (primed name) whole env else name) h)
+pub fresh-none : (name : Ident) (whole : Ty) (env : List Replaced) → fresh 0 name whole env ≡ name
+unfolding fresh
+fresh-none name whole env = refl
 
-pub fresh-free : (n m : ℕ) (name : Ident) (whole : Ty) (env : List Replaced) → n ≡ suc m → is_taken name whole env ≡ false → fresh n name whole env ≡ name
-fresh-free n m name whole env e h = ap (λ k. fresh k name whole env) e ∙ (fresh-suc m name whole env ∙ ap (λ b. if b then fresh m (primed name) whole env else name) h)
+pub fresh-free : (n : ℕ) (name : Ident) (whole : Ty) (env : List Replaced) → is_taken name whole env ≡ false → fresh n name whole env ≡ name
+fresh-free zero name whole env h = fresh-none name whole env
+fresh-free (suc n) name whole env h = fresh-suc n name whole env ∙ ap (λ b. if b then fresh n (primed name) whole env else name) h
+
+taken-suc : (n : ℕ) (name : Ident) (whole : Ty) (env : List Replaced) → is_taken name whole env ≡ true → fresh (suc n) name whole env ≡ fresh n (primed name) whole env
+taken-suc n name whole env h = fresh-suc n name whole env ∙ ap (λ b. if b then fresh n (primed name) whole env else name) h
+
+pub fresh-taken : (n : ℕ) (name : Ident) (whole : Ty) (env : List Replaced) → n ≢ 0 → is_taken name whole env ≡ true → fresh n name whole env ≡ fresh (n - 1) (primed name) whole env
+fresh-taken n name whole env some h =
+    let e : n ≡ suc (n - 1) = omega arith in
+    ap (λ k. fresh k name whole env) e ∙ taken-suc (n - 1) name whole env h
 
 pub ruleset fresh_rules = (fresh-none, fresh-taken, fresh-free)
 
 pub fresh_name-is : (name : Ident) (whole : Ty) (env : List Replaced) → fresh 18446744073709551615 name whole env ≡ fresh_name name whole env
 unfolding fresh_name
 fresh_name-is name whole env = refl
+
+pub ruleset fresh_name_rules = (fresh_name-is)
 
 all_under-map : {T : Type 0} (f : T → List Replaced → Ty) (env : List Replaced) (xs : List T) → all_under env (map f xs) ≡ map (λ t. f t env) xs
 unfolding all_under
@@ -54,4 +63,7 @@ put_in-Given whole c b env =
     let h : put_in whole (ty.Given c b) env ≡ given_of whole b env c (all_under env (map (put_in whole) c.args)) = search (rules, the_lemmas) in
     h ∙ ap (given_of whole b env c) (all_under-map (put_in whole) env c.args)
 
-pub ruleset put_in_rules = (put_in-Given, fresh_name-is)
+pub put_in-Forall : (whole : Ty) (name : Ident) (k : Kind) (b : Ty) (env : List Replaced) → put_in whole (ty.Forall name k b) env ≡ ty.Forall (fresh_name name whole env) k (put_in whole b (bound whole name env))
+put_in-Forall whole name k b env = search (rules, the_lemmas)
+
+pub ruleset put_in_rules = (put_in-Given, put_in-Forall)

@@ -110,6 +110,12 @@ fn primed(alloc: Global, name: &Ident) -> Result<Ident, NoMemory>
     Ok(Ident(Text::from_string(text)?))
 }
 
+fn is_taken(name: &Ident, whole: &Ty, env: &[Replaced]) -> bool
+    ensures { result ≡ spec.is_taken name.now whole.now env.now }
+{
+    is_free_in_one(env, name) || is_free(name, whole)
+}
+
 /// The name with as many primes as it takes that it is free neither in what is put in nor in the type.
 #[tactic(auto, using(crate::proofs::VarRules::fresh_rules))]
 fn fresh(
@@ -121,15 +127,19 @@ fn fresh(
 ) -> Result<Ident, NoMemory>
     ensures { IfOk result (λ x. x ≡ spec.fresh tries name.now whole.now env.now) }
 {
-    if tries == 0 {
-        return Ok(name.clone()?);
-    }
-    if is_free_in_one(env, name) || is_free(name, whole) {
+    if tries != 0 && is_taken(name, whole, env) {
         let name = primed(alloc, name)?;
         fresh(alloc, tries - 1, &name, whole, env)
     } else {
         Ok(name.clone()?)
     }
+}
+
+#[tactic(auto, using(crate::proofs::VarRules::fresh_name_rules))]
+fn fresh_name(alloc: Global, name: &Ident, whole: &Ty, env: &[Replaced]) -> Result<Ident, NoMemory>
+    ensures { IfOk result (λ x. x ≡ spec.fresh_name name.now whole.now env.now) }
+{
+    fresh(alloc, u64::MAX, name, whole, env)
 }
 
 fn renamed(name: &Ident, other: &Ident) -> Result<Replaced, NoMemory>
@@ -139,6 +149,16 @@ fn renamed(name: &Ident, other: &Ident) -> Result<Replaced, NoMemory>
         name: name.clone()?,
         by: Ty::Var(other.clone()?),
     })
+}
+
+/// The new name of a variable that a `forall` binds, which then stands for it.
+fn bind(alloc: Global, name: &Ident, whole: &Ty, env: &mut Vec<Replaced>) -> Result<Ident, NoMemory>
+    ensures name { IfOk result (λ x. x ≡ spec.fresh_name name.now whole.now env.old.items) }
+    ensures bound { IfOk result (λ _. env.new.items ≡ spec.bound whole.now name.now env.old.items) }
+{
+    let other = fresh_name(alloc, name, whole, env.as_slice())?;
+    env.push(renamed(name, &other)?)?;
+    Ok(other)
 }
 
 #[cycle(substitute)]
@@ -154,8 +174,7 @@ fn put_in(alloc: Global, ty: &Ty, whole: &Ty, env: &mut Vec<Replaced>) -> Result
             Ok(Ty::App(function, shared_in(alloc, argument, whole, env)?))
         }
         Ty::Forall(name, kind, body) => {
-            let other = fresh(alloc, u64::MAX, name, whole, env.as_slice())?;
-            env.push(renamed(name, &other)?)?;
+            let other = bind(alloc, name, whole, env)?;
             let body = shared_in(alloc, body, whole, env)?;
             env.pop();
             Ok(Ty::Forall(other, kind.clone()?, body))
