@@ -1,10 +1,10 @@
 -- Types without the names of bound variables: such a variable is the place of its `forall` among
 -- those round it. Two types are equal up to these names exactly where they are equal so.
-use Rattle.std.specs.Prelude.{ℕ, ◌+◌, Bool, if◌then◌else◌, List, [], ◌∷◌, ◌++◌, map, decimal, Option, Some, None}
+use Rattle.std.specs.Prelude.{ℕ, ◌+◌, if◌then◌else◌, List, [], ◌∷◌, ◌++◌, map, decimal, Option, Some, None}
 use Rattle.psc_text.specs.declared.names.Ident.{Ident}
 use Rattle.psc_type.specs.declared.ty.Ty.{Ty}
 use Rattle.psc_type.specs.declared.ty.Ty.TheVariants as ty
-use Rattle.psc_type.specs.declared.ty.Ty.TheOpen.{Ty-F, Constraint-F}
+use Rattle.psc_type.specs.declared.ty.Ty.TheOpen.{Ty-F}
 use Rattle.psc_type.specs.declared.ty.Ty.TheFolds.{fold-Ty}
 use Rattle.psc_type.specs.declared.ty.Constraint.{Constraint}
 use Rattle.psc_type.specs.Closed.{is_same}

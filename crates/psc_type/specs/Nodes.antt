@@ -1,6 +1,6 @@
 -- How many nodes a type has: one for each form, and those of its parts. The class of a constraint
 -- and a kind have none.
-use Rattle.std.specs.Prelude.{ℕ, ◌+◌, List, [], ◌∷◌, sum}
+use Rattle.std.specs.Prelude.{ℕ, ◌+◌, sum}
 use Rattle.psc_type.specs.declared.ty.Ty.{Ty}
 use Rattle.psc_type.specs.declared.ty.Ty.TheOpen.{Ty-F}
 use Rattle.psc_type.specs.declared.ty.Ty.TheFolds.{fold-Ty}

@@ -1,12 +1,11 @@
 -- The free variables of a type, and types in their place.
-use Rattle.std.specs.Prelude.{ℕ, zero, suc, Bool, true, false, not, ◌||◌, ◌&&◌, if◌then◌else◌, List, [], ◌∷◌, ◌++◌, map, nat_eq}
+use Rattle.std.specs.Prelude.{ℕ, zero, suc, Bool, false, not, ◌||◌, ◌&&◌, if◌then◌else◌, List, [], ◌∷◌, ◌++◌, map}
 use Rattle.std.specs.List.{list_any}
-use Rattle.std.specs.Cmp.Lexicographic.{pointwise}
 use Rattle.psc_text.specs.declared.names.Ident.{Ident}
 use Rattle.psc_type.specs.declared.vars.Replaced.{Replaced}
 use Rattle.psc_type.specs.declared.ty.Ty.{Ty}
 use Rattle.psc_type.specs.declared.ty.Ty.TheVariants as ty
-use Rattle.psc_type.specs.declared.ty.Ty.TheOpen.{Ty-F, Constraint-F}
+use Rattle.psc_type.specs.declared.ty.Ty.TheOpen.{Ty-F}
 use Rattle.psc_type.specs.declared.ty.Ty.TheFolds.{fold-Ty}
 use Rattle.psc_type.specs.declared.ty.Constraint.{Constraint}
 use Rattle.psc_type.specs.Closed.{is_same}
