@@ -43,9 +43,12 @@ at_var env name = later env name (ty.Var name)
 abbrev pub primed : Ident → Ident
 primed x = record { 0 = x.0 ++ 39 ∷ [] }
 
--- whether a `forall` of the name could bind a variable that is free in what is put in, or in the type
+abbrev pub is_replaced : List Replaced → Ident → Bool
+is_replaced env name = list_any (λ one. is_same one.name name) env
+
+-- whether a `forall` of the name could bind a variable that is free in what is put in, or in the type and stays
 abbrev pub is_taken : Ident → Ty → List Replaced → Bool
-is_taken name whole env = list_any (λ one. is_free name one.by) env || is_free name whole
+is_taken name whole env = list_any (λ one. is_free name one.by) env || (is_free name whole && not (is_replaced env name))
 
 -- the name with as many primes as it takes
 unfoldable pub fresh : ℕ → Ident → Ty → List Replaced → Ident

@@ -110,13 +110,24 @@ fn primed(alloc: Global, name: &Ident) -> Result<Ident, NoMemory>
     Ok(Ident(Text::from_string(text)?))
 }
 
+fn is_replaced(env: &[Replaced], name: &Ident) -> bool
+    ensures { result ≡ spec.is_replaced env.now name.now }
+{
+    for one in env {
+        if one.name == *name {
+            return true;
+        }
+    }
+    false
+}
+
 fn is_taken(name: &Ident, whole: &Ty, env: &[Replaced]) -> bool
     ensures { result ≡ spec.is_taken name.now whole.now env.now }
 {
-    is_free_in_one(env, name) || is_free(name, whole)
+    is_free_in_one(env, name) || (is_free(name, whole) && !is_replaced(env, name))
 }
 
-/// The name with as many primes as it takes that it is free neither in what is put in nor in the type.
+/// The name with as many primes as it takes that it is free neither in what is put in nor in what stays.
 #[tactic(auto, using(crate::proofs::VarRules::fresh_rules))]
 fn fresh(
     alloc: Global,
