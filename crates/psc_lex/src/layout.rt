@@ -3,44 +3,14 @@
 //! Input: the signs and columns of the tokens. Output: a mark for each. The open blocks are a stack
 //! of rising columns, and the open brackets and keywords another one beside it.
 
+use crate::blocks::{
+    Block, Keyword, Phase, Rule, block_keyword, holds_comma, kept, never_begins_item, phase_after,
+};
 use crate::openers::{Openers, closed_by};
 use crate::sign::Sign;
 use crate::token::{Mark, Opens};
 use psc_text::NoMemory;
 use std::alloc::Global;
-
-/// The keyword that opened a block.
-#[derive(Clone, Copy, Debug, PartialEq, Eq)]
-enum Keyword {
-    Where,
-    Let,
-    Do,
-    Ado,
-    Of,
-}
-
-/// How far an item has come, as commas see it.
-#[derive(Clone, Copy, Debug, PartialEq, Eq)]
-enum Phase {
-    /// No `->` and no `|` stands in it yet.
-    Binders,
-    /// Behind a `|` with no `=` or `->` since.
-    Guard,
-    Body,
-}
-
-/// A block that is open.
-#[derive(Clone, Copy, Debug)]
-struct Block {
-    keyword: Keyword,
-    column: u32,
-    /// How far its last item has come.
-    phase: Phase,
-    /// How many openers were open before it.
-    openers: usize,
-    /// How many blocks stay open when `in` comes, if it ends any.
-    kept_by_in: Option<usize>,
-}
 
 /// What the blocks depend on at a token.
 #[derive(Clone, Copy, Debug)]
@@ -49,69 +19,6 @@ pub(crate) struct Now {
     pub(crate) column: u32,
     /// Whether the token begins a line.
     pub(crate) leads: bool,
-}
-
-fn block_keyword(sign: Sign) -> Option<Keyword> {
-    match sign {
-        Sign::Where => Some(Keyword::Where),
-        Sign::Let => Some(Keyword::Let),
-        Sign::Do => Some(Keyword::Do),
-        Sign::Ado => Some(Keyword::Ado),
-        Sign::Of => Some(Keyword::Of),
-        _ => None,
-    }
-}
-
-/// How many blocks stay when a line begins at this column: those further right end.
-fn kept_by_line(blocks: &[Block], column: u32) -> usize {
-    for at in (0..blocks.len()).rev() {
-        if blocks[at].column <= column {
-            return at + 1;
-        }
-    }
-    0
-}
-
-/// How many blocks stay when `where` comes at this column: `do` blocks end, and those not further left.
-fn kept_by_where(blocks: &[Block], column: u32) -> usize {
-    for at in (0..blocks.len()).rev() {
-        if blocks[at].keyword != Keyword::Do && blocks[at].column < column {
-            return at + 1;
-        }
-    }
-    0
-}
-
-/// Whether a comma belongs to the item: in a guard, or among the binders of an alternative.
-fn holds_comma(block: Block) -> bool {
-    match block.phase {
-        Phase::Guard => true,
-        Phase::Binders => block.keyword == Keyword::Of,
-        Phase::Body => false,
-    }
-}
-
-/// How many blocks stay when a comma comes, where the innermost opener stands inside so many of them.
-fn kept_by_comma(blocks: &[Block], outside: usize) -> usize {
-    for at in (0..blocks.len()).rev() {
-        if at < outside || holds_comma(blocks[at]) {
-            return at + 1;
-        }
-    }
-    0
-}
-
-fn never_begins_item(sign: Sign) -> bool {
-    matches!(sign, Sign::Then | Sign::Else | Sign::Of | Sign::In)
-}
-
-fn phase_after(phase: Phase, sign: Sign) -> Phase {
-    match sign {
-        Sign::Bar => Phase::Guard,
-        Sign::Arrow => Phase::Body,
-        Sign::Equals if phase == Phase::Guard => Phase::Body,
-        _ => phase,
-    }
 }
 
 /// What is open between two tokens.
@@ -158,12 +65,23 @@ impl Layout {
     }
 
     fn is_in_module_block(&self) -> bool {
-        self.blocks.len() == 1
+        matches!(
+            self.blocks.as_slice(),
+            [Block {
+                keyword: Keyword::Where,
+                ..
+            }]
+        )
     }
 
-    /// Whether an item begins with the token, apart from the first of a block.
-    fn begins_item(&self, now: Now) -> bool {
-        self.is_at_column(now) && (self.is_in_module_block() || !never_begins_item(now.sign))
+    /// Whether the token stands where an item of the innermost block may begin.
+    fn is_at_item(&self, is_first: bool, now: Now) -> bool {
+        is_first || self.is_at_column(now)
+    }
+
+    fn begins_item(&self, is_first: bool, now: Now) -> bool {
+        self.is_at_item(is_first, now)
+            && (self.is_in_module_block() || !never_begins_item(now.sign))
     }
 
     /// How many blocks stay when `in` comes.
@@ -179,14 +97,21 @@ impl Layout {
         }
     }
 
+    /// How many blocks stay when a comma comes in a bracket: those round the innermost opener, and those that hold it.
+    fn kept_by_comma(&self) -> usize {
+        let outside = self.openers.blocks_before_last().min(self.blocks.len());
+        let (_, inside) = self.blocks.as_slice().split_at(outside);
+        outside.saturating_add(kept(Rule::Comma, inside))
+    }
+
     /// How many blocks stay for what the token is, apart from its column as the first of a line.
-    fn kept_by_sign(&mut self, now: Now) -> usize {
+    fn kept_by_sign(&mut self, is_first: bool, now: Now) -> usize {
         match now.sign {
-            Sign::Where => kept_by_where(self.blocks.as_slice(), now.column),
-            Sign::Comma if self.openers.has_bracket() => {
-                kept_by_comma(self.blocks.as_slice(), self.openers.blocks_before_last())
+            Sign::Where => kept(Rule::Where(now.column), self.blocks.as_slice()),
+            Sign::Comma if self.openers.has_bracket() => self.kept_by_comma(),
+            Sign::Else if self.is_in_module_block() && self.is_at_item(is_first, now) => {
+                self.blocks.len()
             }
-            Sign::Else if self.is_in_module_block() && self.is_at_column(now) => self.blocks.len(),
             sign => match closed_by(sign) {
                 Some(kind) => self.openers.close(kind).unwrap_or(self.blocks.len()),
                 None => self.blocks.len(),
@@ -195,32 +120,32 @@ impl Layout {
     }
 
     /// Ends the blocks that end before the token, and counts them.
-    fn end_blocks(&mut self, now: Now) -> u32 {
+    fn end_blocks(&mut self, is_first: bool, now: Now) -> u32 {
         let mut ends: u32 = 0;
         if let Sign::In = now.sign {
-            let kept = self.kept_by_in();
-            ends = self.keep(kept);
+            let count = self.kept_by_in();
+            ends = self.keep(count);
         }
         if now.leads {
-            let kept = kept_by_line(self.blocks.as_slice(), now.column);
-            ends = ends.saturating_add(self.keep(kept));
+            let count = kept(Rule::Line(now.column), self.blocks.as_slice());
+            ends = ends.saturating_add(self.keep(count));
         }
-        let kept = self.kept_by_sign(now);
-        ends.saturating_add(self.keep(kept))
+        let count = self.kept_by_sign(is_first, now);
+        ends.saturating_add(self.keep(count))
     }
 
     fn set_phase(&mut self, phase: Phase) {
-        if let Some(mut block) = self.blocks.pop() {
-            block.phase = phase;
-            let _ = self.blocks.push(block);
+        let count = self.blocks.len();
+        if 0 < count {
+            self.blocks[count - 1].phase = phase;
         }
     }
 
-    /// How many blocks stay for `in` inside a block that opens now.
+    /// How many blocks stay for `in` inside a block that opens now. The block of a `let` that is an item of `ado` has no `in`.
     fn kept_by_in_inside(&self, keyword: Keyword, is_item: bool) -> Option<usize> {
         let outer = self.innermost();
         let is_of_ado = match outer {
-            Some(block) => is_item && block.keyword == Keyword::Ado,
+            Some(block) => is_item && matches!(block.keyword, Keyword::Ado),
             None => false,
         };
         match keyword {
@@ -232,10 +157,12 @@ impl Layout {
 
     /// Whether the token ends a block that would begin with it.
     fn ends_at_once(&self, block: Block, next: Now) -> bool {
+        let is_modules = self.blocks.is_empty() && matches!(block.keyword, Keyword::Where);
         match next.sign {
             Sign::In => block.kept_by_in.is_some(),
             Sign::Where => true,
             Sign::Comma => self.openers.has_bracket() && !holds_comma(block),
+            Sign::Else if is_modules => false,
             sign => match closed_by(sign) {
                 Some(kind) => self.openers.has(kind),
                 None => false,
@@ -274,20 +201,24 @@ impl Layout {
         Ok(Opens::Block)
     }
 
-    /// The mark of a token, and what is open behind it.
+    /// How far the innermost block's last item has come behind the token.
+    fn phase_behind(&self, is_item: bool, sign: Sign) -> Phase {
+        match self.innermost() {
+            Some(block) if !is_item => phase_after(block.phase, sign),
+            _ => phase_after(Phase::Binders, sign),
+        }
+    }
+
+    /// The mark of a token, and what is open behind it. The first token of a block `is_first`.
     pub(crate) fn mark(
         &mut self,
         is_first: bool,
         now: Now,
         next: Option<Now>,
     ) -> Result<Mark, NoMemory> {
-        let ends = self.end_blocks(now);
-        let item = is_first || self.begins_item(now);
-        let phase = match self.innermost() {
-            Some(block) if !item => block.phase,
-            _ => Phase::Binders,
-        };
-        self.set_phase(phase_after(phase, now.sign));
+        let ends = self.end_blocks(is_first, now);
+        let item = self.begins_item(is_first, now);
+        self.set_phase(self.phase_behind(item, now.sign));
         self.openers.enter(now.sign, self.blocks.len())?;
         let opens = match block_keyword(now.sign) {
             Some(keyword) => self.open(keyword, item, next)?,

@@ -1,10 +1,13 @@
 //! A source as its tokens with their blocks: the cut, the tokens, their labels, and the layout.
 
+ghost use Rattle.std.specs.Prelude.{◌≡◌};
+ghost use Rattle.psc_lex.specs.Signs as spec;
+
 use crate::cut::cut;
 use crate::layout::{Layout, Now};
-use crate::raw::{Raw, raw_tokens};
+use crate::raw::raw_tokens;
 use crate::sign::Sign;
-use crate::token::{Mark, Opens, Tok};
+use crate::token::{Opens, Tok};
 use psc_text::NoMemory;
 use std::alloc::Global;
 
@@ -16,18 +19,39 @@ fn characters(alloc: Global, source: &str) -> Result<Vec<char>, NoMemory> {
     Ok(out)
 }
 
-fn sign_at(raws: &[Raw], at: usize) -> Sign {
-    match raws.get(at) {
-        Some(raw) => raw.sign,
+fn sign_at(toks: &[Tok], at: usize) -> Sign {
+    match toks.get(at) {
+        Some(tok) => tok.sign,
         None => Sign::Wrong,
     }
 }
 
+#[tactic(auto, unfolding(crate::specs::Signs::is_dot))]
+fn is_dot(sign: Sign) -> bool
+    ensures { result ≡ spec.is_dot sign }
+{
+    matches!(sign, Sign::Dot)
+}
+
+#[tactic(auto, unfolding(crate::specs::Signs::is_colon))]
+fn is_colon(sign: Sign) -> bool
+    ensures { result ≡ spec.is_colon sign }
+{
+    matches!(sign, Sign::Colon | Sign::DoubleColon)
+}
+
+#[tactic(auto, unfolding(crate::specs::Signs::is_boolean))]
+fn is_boolean(sign: Sign) -> bool
+    ensures { result ≡ spec.is_boolean sign }
+{
+    matches!(sign, Sign::True | Sign::False)
+}
+
 /// The sign of a token between two others, where a keyword may be a label and nothing else.
-fn in_context(before: Sign, sign: Sign, next: Sign) -> Sign {
-    let is_before_colon = matches!(next, Sign::Colon | Sign::DoubleColon);
-    let is_literal = matches!(sign, Sign::True | Sign::False);
-    if sign.is_keyword() && (before == Sign::Dot || (is_before_colon && !is_literal)) {
+fn in_context(before: Sign, sign: Sign, next: Sign) -> Sign
+    ensures { result ≡ spec.in_context before sign next }
+{
+    if sign.is_keyword() && (is_dot(before) || (is_colon(next) && !is_boolean(sign))) {
         Sign::LabelKeyword
     } else {
         sign
@@ -35,59 +59,43 @@ fn in_context(before: Sign, sign: Sign, next: Sign) -> Sign {
 }
 
 /// Finds the keywords that are labels.
-fn find_labels(raws: &mut Vec<Raw>) {
+fn find_labels(toks: &mut Vec<Tok>) {
     let mut before = Sign::Wrong;
-    for at in 0..raws.len() {
-        let sign = sign_at(raws.as_slice(), at);
-        let next = sign_at(raws.as_slice(), at.saturating_add(1));
-        if at < raws.len() {
-            raws[at].sign = in_context(before, sign, next);
+    for at in 0..toks.len() {
+        let sign = sign_at(toks.as_slice(), at);
+        let next = sign_at(toks.as_slice(), at.saturating_add(1));
+        if at < toks.len() {
+            toks[at].sign = in_context(before, sign, next);
         }
         before = sign;
     }
 }
 
-fn now(raw: &Raw) -> Now {
+/// What blocks depend on at a token, where this is the last line on which a token before it stands.
+fn now(tok: &Tok, line: u32) -> Now {
     Now {
-        sign: raw.sign,
-        column: raw.span.column,
-        leads: raw.leads,
+        sign: tok.sign,
+        column: tok.span.column,
+        leads: line < tok.span.line,
     }
 }
 
-fn marks(alloc: Global, raws: &[Raw]) -> Result<Vec<Mark>, NoMemory> {
-    let mut out = Vec::with_capacity(alloc, raws.len())?;
+/// Puts the marks of the blocks on the tokens.
+fn set_marks(alloc: Global, toks: &mut Vec<Tok>) -> Result<(), NoMemory> {
     let mut layout = Layout::new(alloc);
     let mut is_first = false;
-    let mut rest = raws;
-    'tokens: while let [raw, more @ ..] = rest {
-        let mark = layout.mark(is_first, now(raw), more.first().map(|next| now(next)))?;
-        is_first = mark.opens == Opens::Block;
-        out.push(mark)?;
-        rest = more;
+    let mut line = 0;
+    for at in 0..toks.len() {
+        if at < toks.len() {
+            let here = now(&toks[at], line);
+            line = toks[at].span.end_line;
+            let next = toks.get(at.saturating_add(1)).map(|tok| now(tok, line));
+            let mark = layout.mark(is_first, here, next)?;
+            is_first = mark.opens == Opens::Block;
+            toks[at].mark = mark;
+        }
     }
-    Ok(out)
-}
-
-fn marked(alloc: Global, raws: Vec<Raw>, marks: &[Mark]) -> Result<Vec<Tok>, NoMemory> {
-    let mut out = Vec::with_capacity(alloc, marks.len())?;
-    for (raw, mark) in raws.into_iter().zip(marks) {
-        let Raw {
-            kind,
-            sign,
-            text,
-            span,
-            leads: _,
-        } = raw;
-        out.push(Tok {
-            kind,
-            sign,
-            text,
-            span,
-            mark: *mark,
-        })?;
-    }
-    Ok(out)
+    Ok(())
 }
 
 /// The tokens of a source, with the blocks that they stand in. Nothing is refused: a character that
@@ -95,8 +103,8 @@ fn marked(alloc: Global, raws: Vec<Raw>, marks: &[Mark]) -> Result<Vec<Tok>, NoM
 pub fn lex_layout(alloc: Global, source: &str) -> Result<Vec<Tok>, NoMemory> {
     let characters = characters(alloc, source)?;
     let pieces = cut(alloc, characters.as_slice())?;
-    let mut raws = raw_tokens(alloc, characters.as_slice(), pieces.as_slice())?;
-    find_labels(&mut raws);
-    let marks = marks(alloc, raws.as_slice())?;
-    marked(alloc, raws, marks.as_slice())
+    let mut toks = raw_tokens(alloc, characters.as_slice(), pieces.as_slice())?;
+    find_labels(&mut toks);
+    set_marks(alloc, &mut toks)?;
+    Ok(toks)
 }

@@ -5,7 +5,9 @@
 //! which block it opens.
 #![tactic(auto)]
 
+mod blocks;
 mod class;
+mod common;
 mod cut;
 mod layout;
 mod lex;

@@ -1,28 +1,16 @@
 //! The tokens of a source before their blocks are known: texts, places and signs.
 //!
-//! Input: the characters of a source and its pieces. Output: the pieces that are tokens, in order.
+//! Input: the characters of a source and its pieces. Output: the pieces that are tokens, in order, each without blocks.
 
 ghost use Rattle.std.specs.Prelude.{◌≤◌, length};
 
-use crate::class::is_blank;
+use crate::common::CommonTexts;
 use crate::cut::Piece;
 use crate::machine::Form;
-use crate::sign::Sign;
-use crate::token::TokKind;
+use crate::token::{Mark, Tok};
 use crate::words::{kind_of, sign_of};
-use psc_text::{NoMemory, Span, Text};
+use psc_text::{NoMemory, Span};
 use std::alloc::Global;
-
-/// A token before its blocks are known.
-#[derive(Debug, Drop)]
-pub(crate) struct Raw {
-    pub(crate) kind: TokKind,
-    pub(crate) sign: Sign,
-    pub(crate) text: Text,
-    pub(crate) span: Span,
-    /// Whether no other token stands before it on its line.
-    pub(crate) leads: bool,
-}
 
 /// A place between two characters.
 #[derive(Clone, Copy, Debug)]
@@ -68,48 +56,29 @@ impl Place {
     }
 }
 
-fn text_of(alloc: Global, characters: &[char]) -> Result<Text, NoMemory> {
-    let mut text = String::with_capacity(alloc, characters.len())?;
-    for c in characters {
-        text.push(*c)?;
-    }
-    Text::from_string(text)
-}
-
 fn is_token(form: Form) -> bool {
     !matches!(form, Form::Blank | Form::Comment)
-}
-
-fn ends_blank(text: &[char]) -> bool {
-    match text {
-        [.., last] => is_blank(*last),
-        [] => false,
-    }
 }
 
 /// How far the tokens of a source have been made.
 #[derive(Clone, Copy, Debug)]
 struct Progress {
     place: Place,
-    /// The last line on which a token stands so far.
-    line: u32,
-    /// Whether the character before is a blank.
+    /// Whether the piece before is of blanks.
     is_behind_blank: bool,
 }
 
 impl Progress {
     const START: Progress = Progress {
         place: Place::START,
-        line: 0,
         is_behind_blank: false,
     };
 
-    /// The progress behind a piece with this text, which ends at this place.
-    fn past(self, form: Form, text: &[char], end: Place) -> Progress {
+    /// The progress behind a piece that ends at this place.
+    fn past(self, form: Form, end: Place) -> Progress {
         Progress {
             place: end,
-            line: if is_token(form) { end.line } else { self.line },
-            is_behind_blank: ends_blank(text),
+            is_behind_blank: form == Form::Blank,
         }
     }
 
@@ -117,18 +86,19 @@ impl Progress {
     fn token(
         self,
         alloc: Global,
+        common: &CommonTexts,
         form: Form,
         text: &[char],
         end: Place,
         behind: &[char],
-    ) -> Result<Raw, NoMemory> {
+    ) -> Result<Tok, NoMemory> {
         let sign = sign_of(form, text, self.is_behind_blank, behind);
-        Ok(Raw {
+        Ok(Tok {
             kind: kind_of(form, sign),
             sign,
-            text: text_of(alloc, text)?,
+            text: common.text_of(alloc, sign, text)?,
             span: self.place.to(end),
-            leads: self.line < self.place.line,
+            mark: Mark::NONE,
         })
     }
 }
@@ -138,7 +108,8 @@ pub(crate) fn raw_tokens(
     alloc: Global,
     source: &[char],
     pieces: &[Piece],
-) -> Result<Vec<Raw>, NoMemory> {
+) -> Result<Vec<Tok>, NoMemory> {
+    let common = CommonTexts::new(alloc)?;
     let mut out = Vec::new(alloc);
     let mut rest = source;
     let mut progress = Progress::START;
@@ -149,9 +120,9 @@ pub(crate) fn raw_tokens(
         let (text, behind) = rest.split_at(piece.length);
         let end = progress.place.behind(text);
         if is_token(piece.form) {
-            out.push(progress.token(alloc, piece.form, text, end, behind)?)?;
+            out.push(progress.token(alloc, &common, piece.form, text, end, behind)?)?;
         }
-        progress = progress.past(piece.form, text, end);
+        progress = progress.past(piece.form, end);
         rest = behind;
     }
     Ok(out)

@@ -1,5 +1,8 @@
 //! What a token is to the grammar: one bare enum, so that a parser compares signs and no texts.
 
+ghost use Rattle.std.specs.Prelude.{◌≡◌};
+ghost use Rattle.psc_lex.specs.Signs as spec;
+
 /// What a token is to the grammar, computed once for each token.
 #[derive(Clone, Copy, Debug, PartialEq, Eq)]
 pub enum Sign {
@@ -52,9 +55,9 @@ pub enum Sign {
     Backslash,
     /// `@`
     At,
-    /// `@` behind a blank, or first in the source, and directly before a character that is none.
+    /// `@` behind a blank and directly before a character that is none: the mark of a type that is applied.
     VisibleAt,
-    /// `?` directly before a letter
+    /// `?` directly before a letter: the mark of a typed hole
     Hole,
     Tick,
     Comma,
@@ -126,8 +129,13 @@ impl Sign {
     }
 
     /// Whether a keyword stands here, a label or not.
-    pub fn is_keyword(self) -> bool {
-        self == Sign::LabelKeyword || self.is_declaration_keyword() || self.is_expression_keyword()
+    #[tactic(auto, unfolding(crate::specs::Signs::is_keyword, crate::specs::Signs::is_label_keyword))]
+    pub fn is_keyword(self) -> bool
+        ensures { result ≡ spec.is_keyword self }
+    {
+        matches!(self, Sign::LabelKeyword)
+            || self.is_declaration_keyword()
+            || self.is_expression_keyword()
     }
 
     /// Whether a label may stand here: a lower name, a keyword or a string.
@@ -135,7 +143,10 @@ impl Sign {
         self == Sign::Str || self.is_lower() || self.is_keyword()
     }
 
-    fn is_declaration_keyword(self) -> bool {
+    #[tactic(auto, unfolding(crate::specs::Signs::is_declaration_keyword))]
+    fn is_declaration_keyword(self) -> bool
+        ensures { result ≡ spec.is_declaration_keyword self }
+    {
         matches!(
             self,
             Sign::Module
@@ -154,7 +165,10 @@ impl Sign {
         )
     }
 
-    fn is_expression_keyword(self) -> bool {
+    #[tactic(auto, unfolding(crate::specs::Signs::is_expression_keyword))]
+    fn is_expression_keyword(self) -> bool
+        ensures { result ≡ spec.is_expression_keyword self }
+    {
         matches!(
             self,
             Sign::Let

@@ -1,8 +1,14 @@
-//! Sources with their tokens, as one line of text for each token.
+//! Sources with their tokens and blocks, each as one line of text that was written by hand.
+
+mod blocks;
+mod labels;
+mod places;
+mod signs;
 
 use crate::{Mark, Opens, Tok, TokKind, lex_layout};
 use psc_text::NoMemory;
 use std::alloc::Global;
+use std::process::Abort;
 use std::test::Fail;
 
 fn kind_name(kind: TokKind) -> &'static str {
@@ -53,7 +59,18 @@ fn spelled(alloc: Global, source: &str) -> Result<String, NoMemory> {
     Ok(out)
 }
 
-/// The text of each token, between what its mark says.
+/// The sign and the text of each token.
+fn signed(alloc: Global, source: &str) -> Result<String, NoMemory> {
+    let mut out = String::new(alloc);
+    for tok in lex_layout(alloc, source)? {
+        let line = format!(in alloc; "{:?} {}|", tok.sign, tok.text.as_str())?;
+        out.push_str(line.as_str())?;
+    }
+    Ok(out)
+}
+
+/// The text of each token, between what its mark says: `}` for a block that ends, `;` for an item that begins, `{` for a
+/// block that opens and `{}` for one without items.
 fn laid_out(alloc: Global, source: &str) -> Result<String, NoMemory> {
     let mut out = String::new(alloc);
     for tok in lex_layout(alloc, source)? {
@@ -68,23 +85,11 @@ fn laid_out(alloc: Global, source: &str) -> Result<String, NoMemory> {
     Ok(out)
 }
 
-#[test]
-fn first(rt: HostRuntime) -> Result<(), Fail> {
-    let rows = [(
-        "module M where\nx = let a = 1 in a\n",
-        "module M where { ; x = let { ; a = 1 } in a ",
-    )];
+/// Whether each source has the tokens with the signs that stand beside it.
+fn all_signed(rt: &impl Abort, alloc: Global, rows: &[(&str, &str)]) -> Result<(), Fail> {
     for (source, want) in rows {
-        let got = laid_out(rt.alloc(), source)?;
-        assert_eq!(rt; got.as_str(), want);
-    }
-    let rows = [(
-        "x = \"a\n",
-        "Lower x 1:1-1:2|Operator = 1:3-1:4|Wrong \" 1:5-1:6|Lower a 1:6-1:7|",
-    )];
-    for (source, want) in rows {
-        let got = spelled(rt.alloc(), source)?;
-        assert_eq!(rt; got.as_str(), want);
+        let got = signed(alloc, source)?;
+        assert_eq!(rt; got.as_str(), *want);
     }
     Ok(())
 }

@@ -7,64 +7,67 @@ use crate::token::TokKind;
 use psc_text::{begins_lower, begins_upper};
 use unicode::properties::GeneralCategory;
 
+/// A spelling, by its first character and the others, and its sign. Most others differ from it in the first character.
+pub(crate) type Spelling = (char, &'static str, Sign);
+
 /// The keywords, and the names that the grammar also names.
-const WORDS: [(&str, Sign); 27] = [
-    ("where", Sign::Where),
-    ("import", Sign::Import),
-    ("let", Sign::Let),
-    ("in", Sign::In),
-    ("do", Sign::Do),
-    ("case", Sign::Case),
-    ("of", Sign::Of),
-    ("if", Sign::If),
-    ("then", Sign::Then),
-    ("else", Sign::Else),
-    ("data", Sign::Data),
-    ("type", Sign::XType),
-    ("newtype", Sign::Newtype),
-    ("class", Sign::Class),
-    ("instance", Sign::Instance),
-    ("derive", Sign::Derive),
-    ("foreign", Sign::Foreign),
-    ("forall", Sign::Forall),
-    ("module", Sign::Module),
-    ("infix", Sign::Infix),
-    ("infixl", Sign::Infixl),
-    ("infixr", Sign::Infixr),
-    ("ado", Sign::Ado),
-    ("true", Sign::True),
-    ("false", Sign::False),
-    ("as", Sign::As),
-    ("hiding", Sign::Hiding),
+pub(crate) const WORDS: [Spelling; 27] = [
+    ('w', "here", Sign::Where),
+    ('i', "mport", Sign::Import),
+    ('l', "et", Sign::Let),
+    ('i', "n", Sign::In),
+    ('d', "o", Sign::Do),
+    ('c', "ase", Sign::Case),
+    ('o', "f", Sign::Of),
+    ('i', "f", Sign::If),
+    ('t', "hen", Sign::Then),
+    ('e', "lse", Sign::Else),
+    ('d', "ata", Sign::Data),
+    ('t', "ype", Sign::XType),
+    ('n', "ewtype", Sign::Newtype),
+    ('c', "lass", Sign::Class),
+    ('i', "nstance", Sign::Instance),
+    ('d', "erive", Sign::Derive),
+    ('f', "oreign", Sign::Foreign),
+    ('f', "orall", Sign::Forall),
+    ('m', "odule", Sign::Module),
+    ('i', "nfix", Sign::Infix),
+    ('i', "nfixl", Sign::Infixl),
+    ('i', "nfixr", Sign::Infixr),
+    ('a', "do", Sign::Ado),
+    ('t', "rue", Sign::True),
+    ('f', "alse", Sign::False),
+    ('a', "s", Sign::As),
+    ('h', "iding", Sign::Hiding),
 ];
 
 /// The reserved operators, and those that the grammar also names.
-const OPERATORS: [(&str, Sign); 18] = [
-    ("=", Sign::Equals),
-    ("::", Sign::DoubleColon),
-    ("->", Sign::Arrow),
-    ("|", Sign::Bar),
-    (".", Sign::Dot),
-    ("\\", Sign::Backslash),
-    ("<-", Sign::LeftArrow),
-    ("=>", Sign::FatArrow),
-    ("@", Sign::At),
-    ("-", Sign::Minus),
-    (":", Sign::Colon),
-    ("<=", Sign::LessEqual),
-    ("..", Sign::DotDot),
-    ("\u{2237}", Sign::DoubleColon),
-    ("\u{2192}", Sign::Arrow),
-    ("\u{2190}", Sign::LeftArrow),
-    ("\u{21d2}", Sign::FatArrow),
-    ("\u{2200}", Sign::Forall),
+pub(crate) const OPERATORS: [Spelling; 18] = [
+    ('=', "", Sign::Equals),
+    (':', ":", Sign::DoubleColon),
+    ('-', ">", Sign::Arrow),
+    ('|', "", Sign::Bar),
+    ('.', "", Sign::Dot),
+    ('\\', "", Sign::Backslash),
+    ('<', "-", Sign::LeftArrow),
+    ('=', ">", Sign::FatArrow),
+    ('@', "", Sign::At),
+    ('-', "", Sign::Minus),
+    (':', "", Sign::Colon),
+    ('<', "=", Sign::LessEqual),
+    ('.', ".", Sign::DotDot),
+    ('\u{2237}', "", Sign::DoubleColon),
+    ('\u{2192}', "", Sign::Arrow),
+    ('\u{2190}', "", Sign::LeftArrow),
+    ('\u{21d2}', "", Sign::FatArrow),
+    ('\u{2200}', "", Sign::Forall),
 ];
 
 /// No keyword and no operator of the tables is longer.
 const LONGEST_WORD: usize = 8;
 
 /// Whether these characters spell the word.
-fn spells(text: &[char], word: &str) -> bool {
+pub(crate) fn spells(text: &[char], word: &str) -> bool {
     let mut rest = text;
     for letter in word.chars() {
         match rest {
@@ -76,15 +79,18 @@ fn spells(text: &[char], word: &str) -> bool {
 }
 
 /// What the table says of these characters, or what it says of no word.
-fn look_up(table: &[(&str, Sign)], text: &[char], other: Sign) -> Sign {
-    if text.len() <= LONGEST_WORD {
-        for (word, sign) in table {
-            if spells(text, word) {
-                return *sign;
+fn look_up(table: &[Spelling], text: &[char], other: Sign) -> Sign {
+    match text {
+        [first, rest @ ..] if rest.len() < LONGEST_WORD => {
+            for (letter, word, sign) in table {
+                if *letter == *first && spells(rest, word) {
+                    return *sign;
+                }
             }
+            other
         }
+        _ => other,
     }
-    other
 }
 
 fn single_sign(text: &[char]) -> Sign {
