@@ -1,5 +1,5 @@
 -- The map of ready groups.
-use Rattle.std.proofs.Common.{◌≡◌, ◌↔◌, ℕ, ◌<◌, ◌≤◌, List, [], ◌∷◌, length, Bool, false, Option, Some, None, IsSome, IfSome, MatchOption, slice_get, ◌⊎◌, inl, inr, refl, sym, ◌∙◌, arith, zero, suc, ap}
+use Rattle.std.proofs.Common.{◌≡◌, ◌↔◌, ℕ, ◌<◌, ◌≤◌, List, [], ◌∷◌, length, Bool, true, false, Option, Some, None, IsSome, IfSome, MatchOption, slice_get, ◌⊎◌, inl, inr, refl, sym, ◌∙◌, arith, zero, suc, ap}
 use Rattle.std.specs.Ordering.{nat_cmp, is_eq, is_gt}
 use Rattle.std.specs.declared.cmp.Ordering.TheVariants.{Less, Greater}
 use Rattle.std.specs.Cmp.{nat_cmp_is}
@@ -34,10 +34,10 @@ no_entries old never f = none old.entries never f
     none (e ∷ es) never f = absurd (never (omega arith))
 
 pub takes_ready : (old new : BTreeMap ℕ ℕ) (r : Option (ℕ × ℕ)) → (IsSome r ↔ (0 < btree_map_len old)) → IfSome r (λ p. get nat_cmp old p.0 ≡ Some p.1) → IfSome r (λ p. IsLowerBound nat_cmp old p.0) → IfSome r (λ p. Updates nat_cmp old new p.0 None) → MatchOption r ((f : ℕ) → get nat_cmp old f ≡ None) (λ p. TakesReady old new p.0 p.1)
-takes_ready old new None variant value least updates = no_entries old (λ lt. variant.1 lt)
+takes_ready old new None variant value least updates = no_entries old (λ lt. let z : false ≡ true = variant.1 lt in cc)
 takes_ready old new (Some p) variant value least updates = record {
   was = value;
-  least = λ f g e. le_from_not_gt p.0 f (least f (rw e tt));
+  least = λ f g e. le_from_not_gt p.0 f (least f (rw e refl));
   gone = updates.1;
   others = λ f ne. updates.2 f (not_at p.0 f ne);
 }

@@ -16,18 +16,21 @@ same_or_not zero (suc n) = inr (λ e. omega arith)
 same_or_not (suc m) zero = inr (λ e. omega arith)
 same_or_not (suc m) (suc n) = elim (same_or_not m n) [ inl p ↦ inl (ap suc p) | inr p ↦ inr (λ e. p (omega arith)) ]
 
+-- the same in the list that was written
+added_here : (old new : List (Vec ℕ Global)) (at item x : ℕ) → Adds old new at item → Mentions new at x → Mentions old at x ⊎ (x ≡ item)
+added_here old new at item x adds m =
+    let v = some_at old at (let w = within new at m.list m.has in let z = adds.sized in omega arith) in
+    let w = adds.list v.0 v.1 in
+    let same : m.list ≡ w.0 = same_item new at m.list w.0 m.has w.1 in
+    elim (after_push v.0.items item m.place x (rw (← w.2) (rw (← same) m.at))) [
+      | inl p ↦ inr p.1
+      | inr p ↦ inl (record { list = v.0; place = m.place; has = v.1; at = p })
+    ]
+
 -- an element of one of several lists stood there before, or was added
 pub added : (old new : List (Vec ℕ Global)) (at item k x : ℕ) → Adds old new at item → Mentions new k x → Mentions old k x ⊎ ((k ≡ at) × (x ≡ item))
 added old new at item k x adds m = elim (same_or_not k at) [
-  | inl e ↦ (
-      let lt : k < length old = (let w = within new k m.list m.has in let z = adds.sized in omega arith) in
-      let v = some_at old k lt in
-      let w = adds.list v.0 (rw (← e) v.1) in
-      let same : m.list ≡ w.0 = same_item new k m.list w.0 m.has (rw e w.1) in
-      elim (after_push v.0.items item m.place x (rw (← w.2) (rw (← same) m.at))) [
-        | inl p ↦ inr (e, p.1)
-        | inr p ↦ inl (record { list = v.0; place = m.place; has = v.1; at = p })
-      ])
+  | inl e ↦ elim (added_here old new at item x adds (rw e at m)) [ inl o ↦ inl (rw e o) | inr s ↦ inr (e, s) ]
   | inr ne ↦ inl (record { list = m.list; place = m.place; has = sym (adds.others k ne) ∙ m.has; at = m.at })
 ]
 
@@ -442,7 +445,7 @@ pub all_less : (placed : List Bool) (mentioned : List ℕ) (from to place : ℕ)
 all_less placed mentioned from to place le all = record { each = λ p h low lt e. all.each p h low (omega arith) e }
 
 pub when_true : (b : Bool) (P : Type 0) → IsTrue b ↔ P → b ≡ true → P
-when_true b P both e = both.0 (rw e tt)
+when_true b P both e = both.0 e
 
 pub when_false : (b : Bool) (P : Type 0) → IsTrue b ↔ P → b ≡ false → P → ⊥
-when_false b P both e p = let t : IsTrue false = rw e at (both.1 p) in absurd t
+when_false b P both e p = let t : b ≡ true = both.1 p in cc
