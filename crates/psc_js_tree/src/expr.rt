@@ -240,8 +240,8 @@ fn variables_of(
         add_variables(
             alloc,
             home,
-            &subject(alloc, number)?,
             binder,
+            &subject(alloc, number)?,
             &mut variables,
         )?;
     }
