@@ -1,4 +1,5 @@
-use Rattle.std.proofs.Common.{ap, ◌∙◌, ◌++◌, ◌∷◌, []}
+use Rattle.std.proofs.Common.{ap, subst, ◌∙◌, ◌≡◌, ◌++◌, ◌∷◌, []}
+use Rattle.psc_rows.specs.Steps.{Steps}
 use Rattle.psc_graph.specs.declared.node.Task.TheVariants.{Equal}
 use Rattle.psc_rows.proofs.TaskLemmas.{steps_start, steps_chain, steps_taken, taken_inside}
 use Rattle.psc_rows.proofs.solve.make_equal.Goals as goal
@@ -18,3 +19,6 @@ returns-in-Err-clause-clash c = λ e ready v sol same.
     let before = c.loop.invariant ready in
     let w = steps_taken _ _ _ _ _ _ _ c.in-Some.ensures before v sol same in
     c.in-Err.ensures.clash e before.ready w.0 w.1 w.2
+
+pub returns-in_default-clause-steps : goal.returns-in_default-clause-steps
+returns-in_default-clause-steps c = λ ready. subst (Steps (λ v. v c.args.a ≡ v c.args.b) _ _ _ []) c.in_default.ensures (c.loop.invariant ready)
