@@ -96,7 +96,7 @@ aligned-both one two pairs left right x y a b e h =
         parts = λ v s t is.
             let both = h.same.parts v s t is in
             let fields = put-same x.label (v x.head) (v y.head) (row_of v (left ++ a) s) (row_of v (right ++ b) t)
-                (sym (row-middle v left x a s here) ∙ both.1 ∙ row-middle v right y b t there ∙ ap (λ l. put l (v y.head) (row_of v (right ++ b) t)) (sym e)) in
+            (sym (row-middle v left x a s here) ∙ both.1 ∙ row-middle v right y b t there ∙ ap (λ l. put l (v y.head) (row_of v (right ++ b) t)) (sym e)) in
             (paired-push v pairs (x.head, y.head) both.0 fields.0, fields.1);
         whole = λ v s t paired rest.
             let both = paired-pop v pairs (x.head, y.head) paired in
@@ -165,8 +165,8 @@ pub both-step : (one two : List Field) (i j k m : ℕ) (pairs more : List (ℕ �
 both-step one two i j k m pairs more left right x y at_x at_y le ge next_i next_j is h =
     let same : x.label ≡ y.label = omega arith in
     let a = aligned-both one two pairs left right x y (drop (i + 1) one) (drop (j + 1) two) same
-        (subst (λ l. Aligns one two l (y ∷ drop (j + 1) two) pairs left right) (drop-at one i x (sym at_x))
-        (subst (λ l. Aligns one two (drop i one) l pairs left right) (drop-at two j y (sym at_y)) h)) in
+    (subst (λ l. Aligns one two l (y ∷ drop (j + 1) two) pairs left right) (drop-at one i x (sym at_x))
+    (subst (λ l. Aligns one two (drop i one) l pairs left right) (drop-at two j y (sym at_y)) h)) in
     subst (λ l. Aligns one two (drop k one) (drop m two) l left right) (sym is)
     (subst (λ n. Aligns one two (drop n one) (drop m two) (pairs ++ (x.head, y.head) ∷ []) left right) (sym next_i)
     (subst (λ n. Aligns one two (drop (i + 1) one) (drop n two) (pairs ++ (x.head, y.head) ∷ []) left right) (sym next_j) a))

@@ -1,5 +1,5 @@
 -- `put` as an equation: what it takes to be equal.
-use Rattle.std.proofs.Common.{ℕ, ◌≡◌, ◌≤◌, ◌<◌, leb, true, false, ap, refl, sym, ◌∙◌, ◌⊎◌, inl, inr, arith}
+use Rattle.std.proofs.Common.{ℕ, ◌≡◌, ◌≤◌, ◌<◌, ap, refl, sym, ◌∙◌, inl, inr, arith}
 use Rattle.std.proofs.lemmas.Bool.Decides.{leb_tells}
 use Rattle.psc_graph.specs.Tree.{Tree, Hole, TAtom, TJoin, TField, put}
 use Rattle.psc_graph.specs.declared.node.Leaf.{Leaf}

@@ -1,5 +1,5 @@
 -- Nodes that are neither free nor links, and their values.
-use Rattle.std.proofs.Common.{ℕ, ◌≡◌, Bool, true, false, List, slice_get, Some, ap, refl, sym, ◌∙◌}
+use Rattle.std.proofs.Common.{ℕ, ◌≡◌, Bool, true, false, ap, refl, sym, ◌∙◌}
 use Rattle.psc_graph.specs.Tree.{Tree, Hole, TAtom, TJoin, TField}
 use Rattle.psc_graph.specs.Model.{Meets}
 use Rattle.psc_graph.specs.declared.node.Node.{Node}

@@ -1,5 +1,5 @@
 -- Elements of lists by place.
-use Rattle.std.proofs.Common.{ℕ, ◌≡◌, ◌<◌, ◌≤◌, ◌+◌, ◌-◌, List, [], ◌∷◌, ◌++◌, append_assoc, length, take, drop, slice_get, Some, None, ap, refl, sym, ◌∙◌, subst, zero, suc, add-one, arith}
+use Rattle.std.proofs.Common.{ℕ, ◌≡◌, ◌<◌, ◌+◌, ◌-◌, List, [], ◌∷◌, ◌++◌, append_assoc, length, take, drop, slice_get, Some, None, ap, refl, sym, ◌∙◌, subst, zero, suc, add-one, arith}
 use Rattle.psc_rows.specs.declared.fields.Field.{Field}
 use Rattle.psc_rows.specs.Row.{HeadsBelow, tasks_of}
 use Rattle.psc_rows.specs.Steps.{AreInside}

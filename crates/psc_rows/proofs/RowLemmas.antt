@@ -1,5 +1,5 @@
 -- Rows of lists of fields: fields with different labels change places, and what two equal rows have in common.
-use Rattle.std.proofs.Common.{ℕ, ◌≡◌, ◌≤◌, ◌<◌, ◌+◌, List, [], ◌∷◌, ◌++◌, length, Option, Some, None, Bool, true, false, inl, inr, ap, refl, sym, ◌∙◌, cond, eqb, zero, suc, arith}
+use Rattle.std.proofs.Common.{ℕ, ◌≡◌, ◌≤◌, ◌<◌, ◌+◌, List, [], ◌∷◌, ◌++◌, Option, Some, None, Bool, true, false, inl, inr, ap, refl, sym, ◌∙◌, cond, eqb, zero, suc, arith}
 use Rattle.std.proofs.lemmas.Bool.Decides.{eqb_tells}
 use Rattle.psc_graph.specs.Tree.{Tree, TField, put, size}
 use Rattle.psc_graph.specs.General.{kind_of, row_kind, Agrees}

@@ -1,5 +1,5 @@
 -- A stable sort by label keeps the row.
-use Rattle.std.proofs.Common.{ℕ, ◌≡◌, ◌≤◌, ◌<◌, List, [], ◌∷◌, ◌++◌, length, get_or, filter, cond, Bool, true, false, not, ◌&&◌, ltb, eqb, ap, refl, sym, ◌∙◌, zero, suc, ◌⊎◌, inl, inr, arith}
+use Rattle.std.proofs.Common.{ℕ, ◌≡◌, ◌≤◌, ◌<◌, List, [], ◌∷◌, ◌++◌, length, get_or, filter, cond, Bool, true, false, not, ◌&&◌, ltb, eqb, ap, refl, sym, ◌∙◌, suc, ◌⊎◌, inl, inr, arith}
 use Rattle.std.proofs.lemmas.Bool.{ltb-false, le-ltb}
 use Rattle.std.proofs.lemmas.List.Elements.{filter-append}
 use Rattle.std.specs.List.Sorted.{ties, IsNonDecreasingBy}
@@ -85,7 +85,7 @@ without x ps qs fs o z h =
     elim (either (tied z x)) [
       | inl p ↦ (let none = none-tied z x ps p o in
           let one : x ∷ filter (tied z) qs ≡ x ∷ filter (tied z) fs =
-              sym (ap (λ l. l ++ (x ∷ filter (tied z) qs)) none) ∙ sym (ap (λ l. filter (tied z) ps ++ l) (kept z x qs p)) ∙ sym long ∙ h ∙ kept z x fs p in
+          sym (ap (λ l. l ++ (x ∷ filter (tied z) qs)) none) ∙ sym (ap (λ l. filter (tied z) ps ++ l) (kept z x qs p)) ∙ sym long ∙ h ∙ kept z x fs p in
           let two : filter (tied z) qs ≡ filter (tied z) fs = cc in
           short ∙ ap (λ l. l ++ filter (tied z) qs) none ∙ two)
       | inr p ↦ short ∙ sym (ap (λ l. filter (tied z) ps ++ l) (dropped z x qs p)) ∙ sym long ∙ h ∙ dropped z x fs p

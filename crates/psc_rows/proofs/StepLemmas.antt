@@ -1,8 +1,8 @@
 -- The steps for equations between nodes, put together.
 use Rattle.std.proofs.Math.Seq.{take-append_seam}
-use Rattle.std.proofs.Common.{ℕ, ◌≡◌, ◌≤◌, ◌<◌, List, [], ◌∷◌, ◌++◌, append_assoc, take, length, Option, Some, slice_get, ap, refl, sym, ◌∙◌, subst}
+use Rattle.std.proofs.Common.{ℕ, ◌≡◌, List, [], ◌∷◌, ◌++◌, append_assoc, take, length, Option, Some, slice_get, ap, sym, ◌∙◌, subst}
 use Rattle.psc_graph.specs.Tree.{Tree, TAtom}
-use Rattle.psc_graph.specs.Model.{Solves, Equates, Holds}
+use Rattle.psc_graph.specs.Model.{Solves, Holds}
 use Rattle.psc_graph.specs.General.{IsSolution, IsReady}
 use Rattle.psc_graph.specs.declared.node.Node.{Node}
 use Rattle.psc_graph.specs.declared.node.Leaf.{Leaf}
@@ -35,7 +35,7 @@ pub steps_rows : (old new : List Node) (list : List (Option ℕ)) (work first as
     → Steps (λ v. row_of v xs (v s) ≡ row_of v ys (v t)) old new list asked more → Steps (λ v. v left ≡ v right) old new list work more
 steps_rows old new list work first asked more left right s t one two xs ys pairs at_left at_right same is_first is_asked steps =
     let is : asked ≡ work ++ (Merge left right ∷ tasks_of pairs) =
-        is_asked ∙ ap (λ l. l ++ tasks_of pairs) is_first ∙ append_assoc work (Merge left right ∷ []) (tasks_of pairs) in
+    is_asked ∙ ap (λ l. l ++ tasks_of pairs) is_first ∙ append_assoc work (Merge left right ∷ []) (tasks_of pairs) in
     steps_split (λ v. v left ≡ v right) (λ v. row_of v xs (v s) ≡ row_of v ys (v t)) old new list work (Merge left right ∷ tasks_of pairs) more
     (λ v sol e rest. at_left v sol.solves ∙ same.whole v (v s) (v t) (tasks-paired v pairs e.1) rest ∙ sym (at_right v sol.solves))
     (λ v sol e. let both = same.parts v (v s) (v t) (sym (at_left v sol.solves) ∙ e ∙ at_right v sol.solves) in ((tt, paired-tasks v pairs both.0), both.1))

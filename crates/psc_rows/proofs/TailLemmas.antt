@@ -1,5 +1,5 @@
 -- The tails of two rows.
-use Rattle.std.proofs.Common.{ℕ, ◌≡◌, ◌≤◌, ◌<◌, List, [], ◌∷◌, ◌++◌, append_assoc, length, length-append, ◌+◌, Option, Some, slice_get, ap, refl, sym, ◌∙◌, subst, zero, arith}
+use Rattle.std.proofs.Common.{ℕ, ◌≡◌, ◌≤◌, ◌<◌, List, [], ◌∷◌, ◌++◌, append_assoc, length, length-append, ◌+◌, Option, Some, slice_get, ap, refl, sym, ◌∙◌, subst, arith}
 use Rattle.std.proofs.lemmas.Option.{slice_get_within}
 use Rattle.psc_graph.specs.Tree.{Tree, TAtom, TJoin, TField}
 use Rattle.psc_graph.specs.Model.{Solves, Equates, Meets, IsClosed}
@@ -56,12 +56,18 @@ extended old new list work more fields tail rest row heads at_tail at_rest grows
     (steps_grow P old new list work (Equal tail row ∷ []) grows.longer grows.back ready a (inside, tt)
     (λ v sol e. e.0 ∙ value v sol.solves)
     (λ v sol e.
-        let w = grows.on was.most.closed v sol in
-        (w.0, w.1, w.2,
-        (w.1.below tail at_tail ∙ e
-        ∙ sym (row-agree v w.0 (length old) fields (v rest) w.1 heads)
-        ∙ ap (row_of w.0 fields) (sym (w.1.below rest at_rest))
-        ∙ sym (value w.0 w.2.solves), tt))))
+    let w = grows.on was.most.closed v sol in (
+      w.0,
+      w.1,
+      w.2,
+      (
+        w.1.below tail at_tail ∙ e
+            ∙ sym (row-agree v w.0 (length old) fields (v rest) w.1 heads)
+            ∙ ap (row_of w.0 fields) (sym (w.1.below rest at_rest))
+            ∙ sym (value w.0 w.2.solves),
+        tt,
+      ),
+    )))
 
 -- a solution went on to a larger graph, and the rest has the value t
 record Goes (old new : List Node) (v : ℕ → Tree) (rest : ℕ) (t : Tree) : Type 0 where
@@ -122,8 +128,10 @@ module _ (old first second new : List Node) (list before : List (Option ℕ)) (o
     g.value,
     g.agrees,
     g.solution,
-    (tail_value v g.value (length old) one right rest for_right t g.agrees one_heads at_right is_right g.here (right_value g.value g.solution.solves),
-    (tail_value v g.value (length old) two left rest for_left t g.agrees two_heads (slice_get_within old left (n.Free 0) unknown) is_left g.here (left_value g.value (to_new.back g.value g.solution).solves), tt)),
+    (
+      tail_value v g.value (length old) one right rest for_right t g.agrees one_heads at_right is_right g.here (right_value g.value g.solution.solves),
+      (tail_value v g.value (length old) two left rest for_left t g.agrees two_heads (slice_get_within old left (n.Free 0) unknown) is_left g.here (left_value g.value (to_new.back g.value g.solution).solves), tt),
+    ),
   )
 
   shared_on : (v : ℕ → Tree) → IsSolution v old → (q : Tree) × (v left ≡ row_of v two q) × (v right ≡ row_of v one q)
@@ -142,9 +150,9 @@ module _ (old first second new : List Node) (list before : List (Option ℕ)) (o
       (λ v sol. grown.back v (to_second.back v (to_new.back v sol)))
       ready a (in_right, (in_left, tt))
       (λ v sol e.
-          let r = e.0 ∙ right_value v sol.solves in
-          let l = e.1.0 ∙ left_value v (to_new.back v sol).solves in
-          ap (row_of v one) l ∙ rows-commute v one two (v rest) apart ∙ ap (row_of v two) (sym r))
+      let r = e.0 ∙ right_value v sol.solves in
+      let l = e.1.0 ∙ left_value v (to_new.back v sol).solves in
+      ap (row_of v one) l ∙ rows-commute v one two (v rest) apart ∙ ap (row_of v two) (sym r))
       (λ v sol same. shared_on v sol (row-exchange v one two (v left) (v right) apart same)))
 
 -- one tail is not two rows without a common label

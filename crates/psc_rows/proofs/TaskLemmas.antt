@@ -2,7 +2,7 @@
 use Rattle.std.proofs.Common.{ℕ, ◌≡◌, ◌≤◌, ◌<◌, List, [], ◌∷◌, ◌++◌, append_assoc, length, Option, Some, slice_get, ap, refl, sym, ◌∙◌, subst, arith}
 use Rattle.psc_graph.specs.Tree.{Tree, TJoin}
 use Rattle.psc_graph.specs.Model.{Equates, Holds}
-use Rattle.psc_graph.specs.General.{IsSolution, IsReady, Agrees, Grows}
+use Rattle.psc_graph.specs.General.{IsSolution, IsReady, Agrees}
 use Rattle.psc_graph.specs.declared.node.Node.{Node}
 use Rattle.psc_graph.specs.declared.node.Former.{Former}
 use Rattle.psc_graph.specs.declared.node.Node.TheVariants.{Join}
@@ -182,17 +182,17 @@ pub steps_joins : (nodes : List Node) (list : List (Option ℕ)) (left right : �
     → IsReady nodes list → AreInside (length nodes) w0 → Steps (λ v. v left ≡ v right) nodes nodes list w0 w3
 steps_joins nodes list left right f g a b c d w0 w1 w2 at_left at_right same {w3 = w3} one two three inside_bd inside_ac ready inside =
     let is : w3 ≡ w0 ++ (Merge left right ∷ Equal b d ∷ Equal a c ∷ []) =
-        three ∙ ap (λ l. l ++ Equal a c ∷ []) (two ∙ ap (λ l. l ++ Equal b d ∷ []) one)
-        ∙ ap (λ l. l ++ Equal a c ∷ []) (append_assoc w0 (Merge left right ∷ []) (Equal b d ∷ []))
-        ∙ append_assoc w0 (Merge left right ∷ Equal b d ∷ []) (Equal a c ∷ []) in
+    three ∙ ap (λ l. l ++ Equal a c ∷ []) (two ∙ ap (λ l. l ++ Equal b d ∷ []) one)
+    ∙ ap (λ l. l ++ Equal a c ∷ []) (append_assoc w0 (Merge left right ∷ []) (Equal b d ∷ []))
+    ∙ append_assoc w0 (Merge left right ∷ Equal b d ∷ []) (Equal a c ∷ []) in
     subst (Steps (λ v. v left ≡ v right) nodes nodes list w0) (sym is)
     (steps_ask (λ v. v left ≡ v right) nodes list w0 (Merge left right ∷ Equal b d ∷ Equal a c ∷ []) ready inside (tt, (inside_bd, (inside_ac, tt)))
     (λ v sol e.
-        sol.solves.each left (Join f a b) at_left
-        ∙ ap (λ x. TJoin f x (v b)) e.1.1.0
-        ∙ ap (TJoin f (v c)) e.1.0
-        ∙ ap (λ h. TJoin h (v c) (v d)) same
-        ∙ sym (sol.solves.each right (Join g c d) at_right))
+    sol.solves.each left (Join f a b) at_left
+    ∙ ap (λ x. TJoin f x (v b)) e.1.1.0
+    ∙ ap (TJoin f (v c)) e.1.0
+    ∙ ap (λ h. TJoin h (v c) (v d)) same
+    ∙ sym (sol.solves.each right (Join g c d) at_right))
     (λ v sol e.
-        let parts = join_parts f g (v a) (v b) (v c) (v d) (sym (sol.solves.each left (Join f a b) at_left) ∙ e ∙ sol.solves.each right (Join g c d) at_right) in
-        (tt, (parts.2, (parts.1, tt)))))
+    let parts = join_parts f g (v a) (v b) (v c) (v d) (sym (sol.solves.each left (Join f a b) at_left) ∙ e ∙ sol.solves.each right (Join g c d) at_right) in
+    (tt, (parts.2, (parts.1, tt)))))

@@ -1,5 +1,5 @@
 -- Steps of solving: what they leave of the solutions.
-use Rattle.std.specs.Prelude.{◌≡◌, ℕ, ◌<◌, ◌≤◌, List, [], ◌∷◌, length, Option}
+use Rattle.std.specs.Prelude.{ℕ, ◌<◌, ◌≤◌, List, [], ◌∷◌, length, Option}
 use Rattle.psc_graph.specs.Tree.{Tree}
 use Rattle.psc_graph.specs.Model.{Equates}
 use Rattle.psc_graph.specs.General.{IsSolution, IsReady, Agrees}

@@ -36,13 +36,7 @@ fn relate_joins(
 }
 
 /// Two types without parts are equal where they are one.
-fn relate_leaves(
-    graph: &mut Graph,
-    left: usize,
-    right: usize,
-    x: Leaf,
-    y: Leaf,
-) -> Result<(), Stop>
+fn relate_leaves(graph: &mut Graph, left: usize, right: usize, x: Leaf, y: Leaf) -> Result<(), Stop>
     requires at_left { slice_get graph.old.nodes.items left ≡ Some (Node.Atom x) }
     requires at_right { slice_get graph.old.nodes.items right ≡ Some (Node.Atom y) }
     ensures steps { OnOk result ((work : List Task) → IsReady graph.old.nodes.items graph.old.kinds.items → AreInside (length graph.old.nodes.items) work → Steps (λ v. v left ≡ v right) graph.old.nodes.items graph.new.nodes.items graph.new.kinds.items work work) }

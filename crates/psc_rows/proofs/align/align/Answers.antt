@@ -1,4 +1,4 @@
-use Rattle.psc_rows.proofs.AlignLemmas.{aligned-start, aligned-end}
+use Rattle.psc_rows.proofs.AlignLemmas.{aligned-start}
 use Rattle.psc_rows.proofs.align.align.Goals as goal
 
 pub loop-init : goal.loop-init

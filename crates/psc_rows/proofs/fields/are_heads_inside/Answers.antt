@@ -1,4 +1,4 @@
-use Rattle.psc_rows.proofs.ListLemmas.{heads-more, heads-whole}
+use Rattle.psc_rows.proofs.ListLemmas.{heads-more}
 use Rattle.psc_rows.proofs.fields.are_heads_inside.Goals as goal
 
 pub loop-index-preserved : goal.loop-index-preserved

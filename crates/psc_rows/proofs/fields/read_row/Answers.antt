@@ -1,4 +1,4 @@
-use Rattle.std.proofs.Common.{ap, sym, ◌∙◌, [], ◌∷◌, Some}
+use Rattle.std.proofs.Common.{ap, sym, ◌∙◌, Some}
 use Rattle.psc_graph.specs.declared.node.Node.TheVariants as n
 use Rattle.psc_rows.specs.Row.{row_of}
 use Rattle.psc_rows.proofs.RowLemmas.{row-append}

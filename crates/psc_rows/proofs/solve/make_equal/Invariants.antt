@@ -1,4 +1,4 @@
-use Rattle.std.proofs.Common.{◌≡◌, ℕ, []}
+use Rattle.std.proofs.Common.{◌≡◌, []}
 use Rattle.psc_graph.specs.General.{IsReady}
 use Rattle.psc_rows.specs.Steps.{Steps}
 use Rattle.psc_rows.proofs.solve.make_equal.Given as goal

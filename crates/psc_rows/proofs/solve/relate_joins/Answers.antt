@@ -1,7 +1,4 @@
-use Rattle.std.proofs.Common.{ap, sym, ◌∙◌, ◌≡◌, ◌∷◌, [], ◌++◌, List, append_assoc, refl}
-use Rattle.psc_graph.specs.declared.node.Task.{Task}
-use Rattle.psc_graph.specs.declared.node.Task.TheVariants.{Equal, Merge}
-use Rattle.psc_graph.specs.Tree.{TJoin}
+use Rattle.std.proofs.Common.{sym, ◌∙◌}
 use Rattle.psc_rows.proofs.FormLemmas.{join_parts, clashing}
 use Rattle.psc_rows.proofs.TaskLemmas.{steps_joins}
 use Rattle.psc_rows.proofs.solve.relate_joins.Goals as goal

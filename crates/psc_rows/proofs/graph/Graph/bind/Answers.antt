@@ -1,4 +1,4 @@
-use Rattle.std.proofs.Common.{ap, sym, ◌∙◌, drop, length, Some}
+use Rattle.std.proofs.Common.{ap, sym, ◌∙◌, drop, length}
 use Rattle.psc_rows.proofs.StepLemmas.{written-whole, steps_bound, bound_clash}
 use Rattle.psc_rows.proofs.graph.Graph.bind.Goals as goal
 
