@@ -1,1 +1,2 @@
+pub mod SizeRules
 pub mod WrittenRules

@@ -1,3 +1,4 @@
-pub mod Names
-pub mod Written
 pub mod Entities
+pub mod Names
+pub mod Sizes
+pub mod Written

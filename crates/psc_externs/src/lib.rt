@@ -9,6 +9,7 @@ mod name;
 mod outcome;
 mod places;
 mod rows;
+mod sizes;
 mod written;
 
 pub use externs::Externs;
@@ -19,4 +20,5 @@ pub use rows::{
     Assoc, ClassRow, ConstructorRow, Dependency, Entity, ExportRow, FixityRow, InstanceRow,
     OpSpace, Param, Space, SynonymRow, TypeRow, ValueRow,
 };
+pub use sizes::MOST_WORDS;
 pub use written::{ExternConstraint, ExternKind, ExternType};

@@ -4,9 +4,9 @@
 ghost use Rattle.std.specs.Prelude.{◌≡◌, ◌↔◌, IsTrue, IsSome, IfSome};
 ghost use Rattle.psc_externs.specs.Written as spec;
 ghost use Rattle.psc_externs.specs.Names as names;
-ghost use Rattle.psc_type.specs.Closed.{is_known_kind};
 
 use crate::name::is_name;
+use crate::sizes::{is_long, is_long_constraint, is_long_kind};
 use psc_text::{Ident, Qualified};
 use psc_type::{Constraint, Kind, Ty};
 use std::alloc::AllocError;
@@ -31,17 +31,17 @@ impl Model for ExternType {
 
     ghost view = { λ t. t.ty };
 
-    ghost invariant = { λ t. IsTrue (spec.is_written t.ty) };
+    ghost invariant = { λ t. IsTrue (spec.is_extern_type t.ty) };
 }
 
 impl ExternType {
     /// The type: None where an unknown, `$any`, a name without its module, or a name that is
-    /// empty or has a dot stands in it.
+    /// empty or has a dot stands in it, or where it has more than 20,000 words.
     pub fn new(ty: Ty) -> Option<ExternType>
-        ensures exactly { IsSome result ↔ IsTrue (spec.is_written ty) }
+        ensures exactly { IsSome result ↔ IsTrue (spec.is_extern_type ty) }
         ensures as_given { IfSome result (λ t. t ≡ ty) }
     {
-        if is_written(&ty) {
+        if is_written(&ty) && !is_long(&ty) {
             Some(ExternType { ty })
         } else {
             None
@@ -50,7 +50,7 @@ impl ExternType {
 
     pub fn ty(&self) -> &Ty
         ensures same { result.now ≡ self.now }
-        ensures written { IsTrue (spec.is_written self.now) }
+        ensures written { IsTrue (spec.is_extern_type self.now) }
     {
         &self.ty
     }
@@ -76,7 +76,7 @@ impl Model for ExternKind {
     ghost use Rattle.std.specs.Coded.{codes};
     ghost use Rattle.psc_type.specs.declared.kind.Kind.{Kind};
     ghost use Rattle.psc_type.specs.contracts.kind.Kind as kinds;
-    ghost use Rattle.psc_type.specs.Closed.{is_known_kind};
+    ghost use Rattle.psc_externs.specs.Written as spec;
 
     ghost Value = { Kind };
 
@@ -84,16 +84,16 @@ impl Model for ExternKind {
 
     ghost view = { λ k. k.kind };
 
-    ghost invariant = { λ k. IsTrue (is_known_kind k.kind) };
+    ghost invariant = { λ k. IsTrue (spec.is_extern_kind k.kind) };
 }
 
 impl ExternKind {
-    /// The kind: None where an unknown stands in it.
+    /// The kind: None where an unknown stands in it, or where it has more than 20,000 words.
     pub fn new(kind: Kind) -> Option<ExternKind>
-        ensures exactly { IsSome result ↔ IsTrue (is_known_kind kind) }
+        ensures exactly { IsSome result ↔ IsTrue (spec.is_extern_kind kind) }
         ensures as_given { IfSome result (λ k. k ≡ kind) }
     {
-        if kind.is_known() {
+        if kind.is_known() && !is_long_kind(&kind) {
             Some(ExternKind { kind })
         } else {
             None
@@ -102,7 +102,7 @@ impl ExternKind {
 
     pub fn kind(&self) -> &Kind
         ensures same { result.now ≡ self.now }
-        ensures known { IsTrue (is_known_kind self.now) }
+        ensures known { IsTrue (spec.is_extern_kind self.now) }
     {
         &self.kind
     }
@@ -136,17 +136,17 @@ impl Model for ExternConstraint {
 
     ghost view = { λ c. c.constraint };
 
-    ghost invariant = { λ c. IsTrue (spec.is_written_constraint c.constraint) };
+    ghost invariant = { λ c. IsTrue (spec.is_extern_constraint c.constraint) };
 }
 
 impl ExternConstraint {
     /// The constraint: None where its class has no module or a type of its may not stand in an
-    /// interface file.
+    /// interface file, or where it has more than 20,000 words.
     pub fn new(constraint: Constraint) -> Option<ExternConstraint>
-        ensures exactly { IsSome result ↔ IsTrue (spec.is_written_constraint constraint) }
+        ensures exactly { IsSome result ↔ IsTrue (spec.is_extern_constraint constraint) }
         ensures as_given { IfSome result (λ c. c ≡ constraint) }
     {
-        if is_written_constraint(&constraint) {
+        if is_written_constraint(&constraint) && !is_long_constraint(&constraint) {
             Some(ExternConstraint { constraint })
         } else {
             None
@@ -155,7 +155,7 @@ impl ExternConstraint {
 
     pub fn constraint(&self) -> &Constraint
         ensures same { result.now ≡ self.now }
-        ensures written { IsTrue (spec.is_written_constraint self.now) }
+        ensures written { IsTrue (spec.is_extern_constraint self.now) }
     {
         &self.constraint
     }
