@@ -1,4 +1,9 @@
 // The fields of a row, and the row of a list of fields.
+ghost use Rattle.std.specs.Prelude.{◌≡◌, ℕ, ◌<◌, length, List, [], ◌∷◌, ◌++◌, OnOk, IfOk, slice_get, Err, true, false};
+ghost use Rattle.psc_graph.specs.Tree.{Tree};
+ghost use Rattle.psc_graph.specs.Model.{Solves};
+ghost use Rattle.psc_graph.specs.General.{Grows, IsReady};
+ghost use Rattle.psc_rows.specs.Row.{row_of, IsTail, HeadsBelow};
 
 use crate::graph::Graph;
 use psc_graph::{Node, Stop, find};
@@ -18,15 +23,56 @@ pub struct Row {
     pub tail: usize,
 }
 
-pub fn add_field(fields: &mut Vec<Field>, field: Field) -> Result<(), Stop> {
+/// Adds a field to a list.
+pub fn add_field(fields: &mut Vec<Field>, field: Field) -> Result<(), Stop>
+    ensures ok { OnOk result (fields.new.items ≡ fields.old.items ++ field ∷ []) }
+    ensures clash { result ≡ Err Stop.Clash → ⊥ }
+{
     match fields.push(field) {
         Ok(()) => Ok(()),
         Err(_) => Err(Stop::Memory),
     }
 }
 
+/// The field at a place of a list.
+pub fn field_at(fields: &[Field], at: usize) -> Option<Field>
+    ensures { result ≡ slice_get fields.now at }
+{
+    fields.get(at).copied()
+}
+
+/// Whether a list has no fields.
+pub fn is_without_fields(fields: &[Field]) -> bool
+    ensures none { result ≡ true → fields.now ≡ [] }
+    ensures some { result ≡ false → (first : Field) × (rest : List Field) × (fields.now ≡ first ∷ rest) }
+{
+    match field_at(fields, 0) {
+        None => true,
+        Some(_) => false,
+    }
+}
+
+/// Whether the heads of all fields are places of nodes.
+pub fn are_heads_inside(nodes: &[Node], fields: &[Field]) -> bool
+    ensures { result ≡ true → HeadsBelow (length nodes.now) fields.now }
+{
+    for index in 0..fields.len() {
+        let Some(field) = field_at(fields, index) else {
+            return false;
+        };
+        if field.head >= nodes.len() {
+            return false;
+        }
+    }
+    true
+}
+
 /// The row that begins at a node.
-pub fn read_row(alloc: Global, nodes: &[Node], at: usize) -> Result<Row, Stop> {
+pub fn read_row(alloc: Global, nodes: &[Node], at: usize) -> Result<Row, Stop>
+    ensures tail { IfOk result (λ r. IsTail nodes.now r.tail) }
+    ensures value { IfOk result (λ r. (v : ℕ → Tree) → Solves v nodes.now → v at ≡ row_of v r.fields.items (v r.tail)) }
+    ensures clash { result ≡ Err Stop.Clash → ⊥ }
+{
     let mut fields = Vec::new(alloc);
     let mut at = at;
     for _ in 0..u64::MAX {
@@ -45,10 +91,18 @@ pub fn read_row(alloc: Global, nodes: &[Node], at: usize) -> Result<Row, Stop> {
 }
 
 /// Adds the nodes of a row with these fields before the tail, and gives its place.
-pub fn push_row(graph: &mut Graph, fields: &[Field], tail: usize) -> Result<usize, Stop> {
+pub fn push_row(graph: &mut Graph, fields: &[Field], tail: usize) -> Result<usize, Stop>
+    ensures grows { OnOk result (Grows graph.old.nodes.items graph.new.nodes.items) }
+    ensures ready { OnOk result (IsReady graph.old.nodes.items graph.old.kinds.items → IsReady graph.new.nodes.items graph.new.kinds.items) }
+    ensures value { IfOk result (λ r. (v : ℕ → Tree) → Solves v graph.new.nodes.items → v r ≡ row_of v fields.now (v tail)) }
+    ensures clash { result ≡ Err Stop.Clash → ⊥ }
+{
     let mut place = tail;
-    for index in 0..fields.len() {
-        let field = fields[fields.len() - 1 - index];
+    let count = fields.len();
+    for index in 0..count {
+        let Some(field) = field_at(fields, count - 1 - index) else {
+            return Err(Stop::Memory);
+        };
         place = graph.push(Node::Field(field.label, field.head, place))?;
     }
     Ok(place)
