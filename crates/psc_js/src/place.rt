@@ -76,6 +76,7 @@ fn put_test(alloc: Global, out: &mut String, test: &JsTest) -> Result<(), NoMemo
     }
 }
 
+#[tactic(auto, unfolding(crate::specs::Place::integer_test))]
 fn put_integer_test(
     alloc: Global,
     out: &mut String,

@@ -4,5 +4,5 @@ use Rattle.psc_js.specs.Literal.{joined}
 use Rattle.psc_js.specs.Expr as spec
 use Rattle.psc_js.proofs.expr.put_ends.Given as goal
 
-abbrev pub invariant-loop-_row : goal.invariant-loop-_row
-invariant-loop-_row l = string_bytes l.out ++ joined (map spec.end_of (drop l._row-index l.parameters)) ≡ string_bytes l.initial.out ++ joined (map spec.end_of l.parameters)
+abbrev pub invariant-loop-row : goal.invariant-loop-row
+invariant-loop-row l = string_bytes l.out ++ joined (map spec.end_of (drop l.row-index l.parameters)) ≡ string_bytes l.initial.out ++ joined (map spec.end_of l.parameters)
