@@ -1,0 +1,135 @@
+//! Types without synonyms, over synonyms whose bodies are expanded already.
+
+ghost use Rattle.std.specs.Prelude.{◌≡◌, IfOk};
+ghost use Rattle.psc_expand.specs.Expand as spec;
+
+use crate::head::{Head, Prepared, apply, begin, finish, limited};
+use psc_items::{Shared, SharedItems};
+use psc_text::{NoMemory, Qualified};
+use psc_type::{Constraint, ExpandFault, Ty};
+use std::alloc::Global;
+
+/// The type without synonyms, where it is not too large.
+pub(crate) fn expand_over(
+    alloc: Global,
+    ty: &Ty,
+    table: &[Prepared],
+) -> Result<Result<Ty, ExpandFault>, NoMemory>
+    ensures { IfOk result (λ r. r ≡ spec.expand_over table.now ty.now) }
+{
+    match head(alloc, ty, table)? {
+        Err(fault) => Ok(Err(fault)),
+        Ok(front) => match finish(front) {
+            Err(fault) => Ok(Err(fault)),
+            Ok(ty) => Ok(limited(ty)),
+        },
+    }
+}
+
+#[tactic(auto, unfolding(crate::specs::Expand::start))]
+fn start(
+    alloc: Global,
+    table: &[Prepared],
+    name: &Qualified,
+) -> Result<Result<Head, ExpandFault>, NoMemory>
+    ensures { IfOk result (λ r. r ≡ spec.start table.now name.now) }
+{
+    for row in table {
+        if row.name == *name {
+            return begin(alloc, row);
+        }
+    }
+    Ok(Ok(Head::Done(Ty::Con(name.clone()?))))
+}
+
+#[cycle(expand)]
+#[tactic(auto, using(crate::proofs::ExpandRules::heads))]
+fn head(alloc: Global, ty: &Ty, table: &[Prepared]) -> Result<Result<Head, ExpandFault>, NoMemory>
+    ensures { IfOk result (λ r. r ≡ spec.head table.now ty.now) }
+{
+    match ty {
+        Ty::Con(name) => start(alloc, table, name),
+        Ty::App(function, argument) => match head(alloc, function.get(), table)? {
+            Err(fault) => Ok(Err(fault)),
+            Ok(front) => match part(alloc, argument.get(), table)? {
+                Err(fault) => Ok(Err(fault)),
+                Ok(argument) => apply(alloc, front, argument),
+            },
+        },
+        Ty::Forall(name, kind, body) => match part(alloc, body.get(), table)? {
+            Err(fault) => Ok(Err(fault)),
+            Ok(body) => {
+                let body = Shared::new(alloc, body)?;
+                Ok(Ok(Head::Done(Ty::Forall(name.clone()?, kind.clone()?, body))))
+            }
+        },
+        Ty::Given(given, body) => match constraint(alloc, given, table)? {
+            Err(fault) => Ok(Err(fault)),
+            Ok(given) => match part(alloc, body.get(), table)? {
+                Err(fault) => Ok(Err(fault)),
+                Ok(body) => Ok(Ok(Head::Done(Ty::Given(given, Shared::new(alloc, body)?)))),
+            },
+        },
+        Ty::RowCons(label, first, rest) => match part(alloc, first.get(), table)? {
+            Err(fault) => Ok(Err(fault)),
+            Ok(first) => match part(alloc, rest.get(), table)? {
+                Err(fault) => Ok(Err(fault)),
+                Ok(rest) => {
+                    let first = Shared::new(alloc, first)?;
+                    let rest = Shared::new(alloc, rest)?;
+                    Ok(Ok(Head::Done(Ty::RowCons(label.clone()?, first, rest))))
+                }
+            },
+        },
+        Ty::Var(_) | Ty::Unknown(_) | Ty::RowNil | Ty::Symbol(_) | Ty::Any(_) => {
+            Ok(Ok(Head::Done(ty.clone()?)))
+        }
+    }
+}
+
+/// A type that no argument follows.
+#[cycle(expand)]
+fn part(alloc: Global, ty: &Ty, table: &[Prepared]) -> Result<Result<Ty, ExpandFault>, NoMemory>
+    ensures { IfOk result (λ r. r ≡ spec.part table.now ty.now) }
+{
+    match head(alloc, ty, table)? {
+        Err(fault) => Ok(Err(fault)),
+        Ok(front) => Ok(finish(front)),
+    }
+}
+
+#[cycle(expand)]
+fn constraint(
+    alloc: Global,
+    given: &Constraint,
+    table: &[Prepared],
+) -> Result<Result<Constraint, ExpandFault>, NoMemory>
+    ensures { IfOk result (λ r. r ≡ spec.constraint table.now given.now) }
+{
+    match parts(alloc, given.args.as_slice(), table)? {
+        Err(fault) => Ok(Err(fault)),
+        Ok(args) => {
+            let class = given.class.clone()?;
+            Ok(Ok(Constraint { class, args }))
+        }
+    }
+}
+
+#[cycle(expand)]
+#[tactic(auto, using(crate::proofs::ExpandRules::turns))]
+fn parts(
+    alloc: Global,
+    args: &[Ty],
+    table: &[Prepared],
+) -> Result<Result<SharedItems<Ty>, ExpandFault>, NoMemory>
+    ensures { IfOk result (λ r. r ≡ spec.parts table.now args.now) }
+{
+    let mut done = Vec::new(alloc);
+    for arg in args {
+        match part(alloc, arg, table)? {
+            Err(fault) => return Ok(Err(fault)),
+            Ok(arg) => done.push(arg)?,
+        }
+    }
+    Ok(Ok(SharedItems::from_vec(alloc, done)?))
+}

@@ -1,0 +1,133 @@
+//! What a type is before its arguments are known.
+
+ghost use Rattle.std.specs.Prelude.{◌≡◌, ◌++◌, IfOk};
+ghost use Rattle.psc_expand.specs.Head as spec;
+
+use psc_items::{Shared, SharedItems};
+use psc_text::{Ident, NoMemory, Qualified};
+use psc_type::{ExpandFault, MOST_NODES, Replaced, Ty, has_more_nodes, substitute};
+use std::alloc::Global;
+
+/// A synonym with its body expanded, or with the fault in its body.
+#[derive(Debug, Drop)]
+pub struct Prepared {
+    pub name: Qualified,
+    pub params: SharedItems<Ident>,
+    pub body: Result<Ty, ExpandFault>,
+}
+
+/// A type, or a synonym whose last arguments have not come yet.
+#[derive(Debug, Drop)]
+pub(crate) enum Head {
+    Done(Ty),
+    /// The synonym's name, its parameters, its body, and the arguments so far.
+    Waiting(Qualified, SharedItems<Ident>, Ty, SharedItems<Replaced>),
+}
+
+fn copied_fault(fault: &ExpandFault) -> Result<ExpandFault, NoMemory>
+    ensures { IfOk result (λ f. f ≡ fault.now) }
+{
+    match fault {
+        ExpandFault::Partial(name) => Ok(ExpandFault::Partial(name.clone()?)),
+        ExpandFault::TooLarge => Ok(ExpandFault::TooLarge),
+    }
+}
+
+/// The head that a synonym begins.
+pub(crate) fn begin(alloc: Global, row: &Prepared) -> Result<Result<Head, ExpandFault>, NoMemory>
+    ensures { IfOk result (λ r. r ≡ spec.begin row.now) }
+{
+    match &row.body {
+        Err(fault) => Ok(Err(copied_fault(fault)?)),
+        Ok(body) => {
+            if row.params.len() == 0 {
+                return Ok(Ok(Head::Done(body.clone()?)));
+            }
+            let given = SharedItems::from_vec(alloc, Vec::new(alloc))?;
+            let (name, params) = (row.name.clone()?, row.params.clone()?);
+            Ok(Ok(Head::Waiting(name, params, body.clone()?, given)))
+        }
+    }
+}
+
+/// The type, where it has all its arguments.
+pub(crate) fn finish(head: Head) -> Result<Ty, ExpandFault>
+    ensures { result ≡ spec.finish head }
+{
+    match head {
+        Head::Done(ty) => Ok(ty),
+        Head::Waiting(name, _, _, _) => Err(ExpandFault::Partial(name)),
+    }
+}
+
+/// The type, where it is not too large.
+pub(crate) fn limited(ty: Ty) -> Result<Ty, ExpandFault>
+    ensures { result ≡ spec.limited ty }
+{
+    if has_more_nodes(&ty, MOST_NODES) {
+        Err(ExpandFault::TooLarge)
+    } else {
+        Ok(ty)
+    }
+}
+
+fn filled(
+    alloc: Global,
+    given: &[Replaced],
+    body: &Ty,
+) -> Result<Result<Head, ExpandFault>, NoMemory>
+    ensures { IfOk result (λ r. r ≡ spec.filled given.now body.now) }
+{
+    match limited(substitute(alloc, given, body)?) {
+        Ok(ty) => Ok(Ok(Head::Done(ty))),
+        Err(fault) => Ok(Err(fault)),
+    }
+}
+
+fn with_one_more(
+    alloc: Global,
+    given: &[Replaced],
+    name: &Ident,
+    by: Ty,
+) -> Result<SharedItems<Replaced>, NoMemory>
+    ensures { IfOk result (λ items. items ≡ given.now ++ spec.one name.now by) }
+{
+    let mut items = Vec::new(alloc);
+    for one in given {
+        items.push(one.clone()?)?;
+    }
+    items.push(Replaced {
+        name: name.clone()?,
+        by,
+    })?;
+    Ok(SharedItems::from_vec(alloc, items)?)
+}
+
+/// The head with one more argument.
+pub(crate) fn apply(
+    alloc: Global,
+    head: Head,
+    argument: Ty,
+) -> Result<Result<Head, ExpandFault>, NoMemory>
+    ensures { IfOk result (λ r. r ≡ spec.apply head argument) }
+{
+    match head {
+        Head::Done(ty) => {
+            let function = Shared::new(alloc, ty)?;
+            Ok(Ok(Head::Done(Ty::App(function, Shared::new(alloc, argument)?))))
+        }
+        Head::Waiting(name, params, body, given) => {
+            match params.as_slice().get(given.len()) {
+                None => Ok(Err(ExpandFault::Partial(name))),
+                Some(param) => {
+                    let given = with_one_more(alloc, given.as_slice(), param, argument)?;
+                    if given.len() == params.len() {
+                        filled(alloc, given.as_slice(), &body)
+                    } else {
+                        Ok(Ok(Head::Waiting(name, params, body, given)))
+                    }
+                }
+            }
+        }
+    }
+}

@@ -1,0 +1,157 @@
+//! Synonyms in an order in which each stands behind those that it uses.
+
+ghost use Rattle.std.specs.Prelude.{◌≡◌, IfOk};
+ghost use Rattle.psc_expand.specs.Expand.{expand_over};
+
+use crate::expanding::expand_over;
+use crate::head::Prepared;
+use psc_groups::{BindingGroup, binding_groups};
+use psc_text::{NoMemory, Qualified};
+use psc_type::{Constraint, ExpandFault, Synonym, Synonyms, Ty};
+use std::alloc::Global;
+use std::collections::BTreeMap;
+use std::marker::Model;
+
+/// Synonyms that are ready for use: their bodies are expanded. Contracts see the list of them.
+#[derive(Debug, Drop)]
+pub struct Unfolding {
+    table: Vec<Prepared>,
+}
+
+impl Model for Unfolding {
+    ghost use Rattle.std.specs.Prelude.{List};
+    ghost use Rattle.psc_expand.specs.declared.head.Prepared.{Prepared};
+
+    ghost Value = { List Prepared };
+
+    ghost view = { λ u. u.table.items };
+}
+
+impl Unfolding {
+    /// The synonyms, each expanded once. Of two with one name the first counts. One that reaches
+    /// itself is left out, so its name stands for itself wherever it is used.
+    pub fn new(alloc: Global, synonyms: &Synonyms) -> Result<Unfolding, NoMemory> {
+        let rows = synonyms.rows.as_slice();
+        let places = places_of(alloc, rows)?;
+        let groups = binding_groups(alloc, mentions_of(alloc, rows, &places)?.as_slice())?;
+        let mut table = Vec::new(alloc);
+        for group in &groups {
+            if let Some(row) = lone_member(rows, &places, group) {
+                let prepared = prepared(alloc, row, table.as_slice())?;
+                table.push(prepared)?;
+            }
+        }
+        Ok(Unfolding { table })
+    }
+
+    /// The type with each synonym replaced by its body, where no synonym has too few arguments and
+    /// neither the type nor an argument of a synonym gets more than 20,000 nodes.
+    ///
+    /// The first fault in reading order counts; a synonym's arguments are read before it.
+    pub fn expand(&self, alloc: Global, ty: &Ty) -> Result<Result<Ty, ExpandFault>, NoMemory>
+        ensures { IfOk result (λ r. r ≡ expand_over self.now ty.now) }
+    {
+        expand_over(alloc, ty, self.table.as_slice())
+    }
+}
+
+/// The type with each synonym replaced by its body: `Unfolding::expand` over these synonyms. Where many
+/// types are expanded over one list, make the `Unfolding` once.
+pub fn expand(
+    alloc: Global,
+    ty: &Ty,
+    synonyms: &Synonyms,
+) -> Result<Result<Ty, ExpandFault>, NoMemory> {
+    Unfolding::new(alloc, synonyms)?.expand(alloc, ty)
+}
+
+fn prepared(alloc: Global, row: &Synonym, table: &[Prepared]) -> Result<Prepared, NoMemory> {
+    let body = expand_over(alloc, &row.body, table)?;
+    Ok(Prepared {
+        name: row.name.clone()?,
+        params: row.params.clone()?,
+        body,
+    })
+}
+
+/// The place of the first row of each name.
+fn places_of(alloc: Global, rows: &[Synonym]) -> Result<BTreeMap<Qualified, u32>, NoMemory> {
+    let mut places = BTreeMap::new(alloc);
+    let mut place: u32 = 0;
+    for row in rows {
+        if places.get(&row.name).is_none() {
+            places.insert(row.name.clone()?, place)?;
+        }
+        place = place.checked_add(1).ok_or(NoMemory)?;
+    }
+    Ok(places)
+}
+
+fn mentions_of(
+    alloc: Global,
+    rows: &[Synonym],
+    places: &BTreeMap<Qualified, u32>,
+) -> Result<Vec<Vec<u32>>, NoMemory> {
+    let mut mentions = Vec::new(alloc);
+    for row in rows {
+        let mut list = Vec::new(alloc);
+        add_mentions(&row.body, places, &mut list)?;
+        mentions.push(list)?;
+    }
+    Ok(mentions)
+}
+
+#[cycle(mentions)]
+fn add_mentions(
+    ty: &Ty,
+    places: &BTreeMap<Qualified, u32>,
+    list: &mut Vec<u32>,
+) -> Result<(), NoMemory> {
+    match ty {
+        Ty::Con(name) => {
+            if let Some(place) = places.get(name) {
+                list.push(*place)?;
+            }
+            Ok(())
+        }
+        Ty::App(left, right) | Ty::RowCons(_, left, right) => {
+            add_mentions(left.get(), places, list)?;
+            add_mentions(right.get(), places, list)
+        }
+        Ty::Forall(_, _, body) => add_mentions(body.get(), places, list),
+        Ty::Given(given, body) => {
+            add_mentions_of_all(given, places, list)?;
+            add_mentions(body.get(), places, list)
+        }
+        Ty::Var(_) | Ty::Unknown(_) | Ty::RowNil | Ty::Symbol(_) | Ty::Any(_) => Ok(()),
+    }
+}
+
+#[cycle(mentions)]
+fn add_mentions_of_all(
+    given: &Constraint,
+    places: &BTreeMap<Qualified, u32>,
+    list: &mut Vec<u32>,
+) -> Result<(), NoMemory> {
+    for arg in given.args.as_slice() {
+        add_mentions(arg, places, list)?;
+    }
+    Ok(())
+}
+
+/// The row of a group that is one synonym, which does not reach itself and is the first of its name.
+fn lone_member<'a>(
+    rows: &'a [Synonym],
+    places: &BTreeMap<Qualified, u32>,
+    group: &BindingGroup,
+) -> Option<&'a Synonym> {
+    if group.recursive {
+        return None;
+    }
+    let place = *group.members.as_slice().first()?;
+    let row = rows.get(usize::try_from(place).ok()?)?;
+    match places.get(&row.name) {
+        Some(first) if *first == place => Some(row),
+        _ => None,
+    }
+}

@@ -1,0 +1,4 @@
+pub mod Spelled
+pub mod Tops
+pub mod Hex
+pub mod Apart

@@ -1,0 +1,227 @@
+//! The phases of a module's names: imports, own declarations, export names, mentions.
+
+use crate::decls::all_decls;
+use crate::exports::{Exported, export_all};
+use crate::imports::import_all;
+use crate::keys::{Area, Key};
+use crate::own::own_names;
+use crate::resolver::Resolver;
+use crate::scope::Scope;
+use crate::stop::{Stop, error_of};
+use crate::world::World;
+use psc_ast::{Decl, Fixities, Fixity, FixityDecl, Module, Side};
+use psc_error::PsError;
+use psc_externs::{Assoc, ExportRow, Externs, FixityRow, OpSpace, UseRow};
+use psc_items::SharedItems;
+use psc_text::{ModuleName, NoMemory, Qualified, Span, Text};
+use sqlite_items::Items;
+use std::alloc::Global;
+use std::collections::BTreeSet;
+
+/// A module whose mentions have their true names, and what is known of its names.
+#[derive(Drop)]
+pub struct Resolved {
+    /// Local names have no module; each other mention has the one that declares it. A call of a name that is not written
+    /// stands where a form needs one: for `-`, at the values of statements, at the steps or the result of an `ado`.
+    pub module: Module,
+    /// The operators that the module declares, and those that it mentions.
+    pub fixities: Fixities,
+    /// The written mentions of names that some module declares, in the order of the source.
+    pub uses: Vec<UseRow>,
+    /// The exported names, ascending.
+    pub exports: Vec<ExportRow>,
+    /// For each exported name the first export that brings it; the start of the source where there is no export list.
+    pub brought: Vec<Span>,
+}
+
+/// What the phases find.
+#[derive(Drop)]
+struct Finds {
+    decls: Items<Decl>,
+    fixities: Vec<Fixity>,
+    uses: Vec<UseRow>,
+    exported: Exported,
+}
+
+/// The true names of a module's mentions, in an environment of interfaces.
+///
+/// Wrong with the first error of the first phase that has one: UnknownImport by the imports; DuplicateValueDeclaration and
+/// OrphanTypeDeclaration by the declarations; UnknownExport and ExportConflict by the export list; UnknownName and
+/// ScopeConflict by the mentions.
+pub fn resolve(
+    alloc: Global,
+    module: Module,
+    env: &[Externs],
+) -> Result<Result<Resolved, PsError>, NoMemory> {
+    match find_all(alloc, &module, env) {
+        Ok(found) => Ok(Ok(joined(alloc, module, found)?)),
+        Err(Stop::NoMemory) => Err(NoMemory),
+        Err(Stop::Wrong(problem)) => Ok(Err(error_of(alloc, &module.name.name, problem)?)),
+    }
+}
+
+fn find_all(alloc: Global, module: &Module, env: &[Externs]) -> Result<Finds, Stop> {
+    let mut world = World::new(alloc, env)?;
+    let mut scope = Scope::new(alloc);
+    let imported = import_all(
+        alloc,
+        module.imports.as_slice(),
+        env,
+        &mut world,
+        &mut scope,
+    )?;
+    let own = own_names(alloc, module.decls.as_slice())?;
+    own.bring(&module.name.name, &mut scope)?;
+    let exported = export_all(alloc, module, &own, &imported)?;
+    let mut resolver = Resolver::new(alloc, scope);
+    let decls = all_decls(&mut resolver, module.decls.as_slice())?;
+    let fixities = fixities_of(
+        alloc,
+        &world,
+        env,
+        &module.name.name,
+        decls.as_slice(),
+        &resolver.operators,
+    )?;
+    Ok(Finds {
+        decls,
+        fixities,
+        uses: resolver.uses,
+        exported,
+    })
+}
+
+fn joined(alloc: Global, module: Module, found: Finds) -> Result<Resolved, NoMemory> {
+    let Finds {
+        decls,
+        fixities,
+        uses,
+        exported,
+    } = found;
+    let Module {
+        name,
+        header,
+        where_line,
+        exports,
+        imports,
+        decls: _written,
+        span,
+    } = module;
+    let module = Module {
+        name,
+        header,
+        where_line,
+        exports,
+        imports,
+        decls,
+        span,
+    };
+    let rows = SharedItems::from_vec(alloc, fixities)?;
+    Ok(Resolved {
+        module,
+        fixities: Fixities { rows },
+        uses,
+        exports: exported.rows,
+        brought: exported.brought,
+    })
+}
+
+/// The fixities of the mentioned operators.
+fn fixities_of(
+    alloc: Global,
+    world: &World,
+    env: &[Externs],
+    own: &ModuleName,
+    decls: &[Decl],
+    operators: &BTreeSet<Key>,
+) -> Result<Vec<Fixity>, NoMemory> {
+    let mut rows = Vec::new(alloc);
+    for decl in decls {
+        if let Decl::Fixity(fixity) = decl {
+            add_own(&mut rows, own, fixity)?;
+        }
+    }
+    let modules = modules_of(alloc, own, operators)?;
+    for module in modules.iter() {
+        for row in world.fixities(env, module) {
+            add_foreign(&mut rows, module, row, operators)?;
+        }
+    }
+    Ok(rows)
+}
+
+/// The other modules whose operators are mentioned.
+fn modules_of(
+    alloc: Global,
+    own: &ModuleName,
+    operators: &BTreeSet<Key>,
+) -> Result<BTreeSet<ModuleName>, NoMemory> {
+    let mut modules = BTreeSet::new(alloc);
+    for key in operators.iter() {
+        if let Some(module) = &key.qualifier {
+            if !module.same(own) {
+                let _new = modules.insert(module.clone()?)?;
+            }
+        }
+    }
+    Ok(modules)
+}
+
+/// The true name of an operator.
+fn true_name(module: &ModuleName, op: &Text) -> Result<Qualified, NoMemory> {
+    Ok(Qualified {
+        module: Some(module.clone()?),
+        name: op.clone()?,
+    })
+}
+
+fn add_own(rows: &mut Vec<Fixity>, own: &ModuleName, fixity: &FixityDecl) -> Result<(), NoMemory> {
+    rows.push(Fixity {
+        op: true_name(own, &fixity.op.op.0)?,
+        target: fixity.target.name.clone()?,
+        side: fixity.side,
+        power: fixity.power,
+        of_types: fixity.of_types,
+    })?;
+    Ok(())
+}
+
+fn add_foreign(
+    rows: &mut Vec<Fixity>,
+    module: &ModuleName,
+    row: &FixityRow,
+    operators: &BTreeSet<Key>,
+) -> Result<(), NoMemory> {
+    let of_types = matches!(row.space, OpSpace::TypeOp);
+    let area = if of_types {
+        Area::TypeOp
+    } else {
+        Area::ValueOp
+    };
+    let key = Key {
+        area,
+        name: row.op.0.clone()?,
+        qualifier: Some(module.clone()?),
+    };
+    if operators.contains(&key) {
+        rows.push(Fixity {
+            op: true_name(module, &row.op.0)?,
+            target: Qualified {
+                module: Some(row.target.module.clone()?),
+                name: row.target.name.text().clone()?,
+            },
+            side: side_of(row.assoc),
+            power: row.precedence,
+            of_types,
+        })?;
+    }
+    Ok(())
+}
+
+fn side_of(assoc: Assoc) -> Side {
+    match assoc {
+        Assoc::Infix => Side::Neither,
+        Assoc::Infixl => Side::Left,
+        Assoc::Infixr => Side::Right,
+    }
+}

@@ -1,0 +1,164 @@
+//! A mention's true name, and what is noted of it.
+
+use crate::keys::{Area, Key, entity, written};
+use crate::locals::Locals;
+use crate::scope::{Found, Scope};
+use crate::stop::{Stop, conflict, wrong_name};
+use psc_ast::{IdentAt, Mention};
+use psc_error::Code;
+use psc_externs::UseRow;
+use psc_text::{ModuleName, NoMemory, Qualified, Span, Text, begins_upper};
+use std::alloc::Global;
+use std::collections::BTreeSet;
+
+/// What is in scope at a place, and what was mentioned before it.
+#[derive(Drop)]
+pub(crate) struct Resolver {
+    pub alloc: Global,
+    scope: Scope,
+    pub values: Locals,
+    pub type_vars: Locals,
+    /// The written mentions of names that some module declares, in the order of the source.
+    pub uses: Vec<UseRow>,
+    /// The mentioned operators by their true names.
+    pub operators: BTreeSet<Key>,
+}
+
+impl Resolver {
+    pub(crate) fn new(alloc: Global, scope: Scope) -> Resolver {
+        Resolver {
+            alloc,
+            scope,
+            values: Locals::new(alloc),
+            type_vars: Locals::new(alloc),
+            uses: Vec::new(alloc),
+            operators: BTreeSet::new(alloc),
+        }
+    }
+
+    /// The module that declares what a mention names.
+    fn module_of(&self, area: Area, mention: &Mention) -> Result<ModuleName, Stop> {
+        match self
+            .scope
+            .find(area, &mention.name.name, &mention.name.module)?
+        {
+            Found::One(module) => Ok(module),
+            Found::Nothing => {
+                let name = written(self.alloc, &mention.name)?;
+                Err(wrong_name(self.alloc, Code::UnknownName, &name, mention.span))
+            }
+            Found::Several(modules) => {
+                let name = written(self.alloc, &mention.name)?;
+                Err(conflict(
+                    self.alloc,
+                    Code::ScopeConflict,
+                    &name,
+                    &modules,
+                    mention.span,
+                ))
+            }
+        }
+    }
+
+    /// A mention of what some module declares.
+    pub(crate) fn global(&mut self, area: Area, mention: &Mention) -> Result<Mention, Stop> {
+        let module = self.module_of(area, mention)?;
+        if let Some(entity) = entity(area, &mention.name.name)? {
+            self.uses.push(UseRow {
+                module: module.clone()?,
+                entity,
+                span: mention.span,
+            })?;
+        }
+        Ok(Mention {
+            name: Qualified {
+                module: Some(module),
+                name: mention.name.name.clone()?,
+            },
+            span: mention.span,
+        })
+    }
+
+    fn is_local(&self, mention: &Mention) -> bool {
+        mention.name.module.is_none() && self.values.has(&mention.name.name)
+    }
+
+    /// A mention of a value, which may be a local one.
+    pub(crate) fn value(&mut self, mention: &Mention) -> Result<Mention, Stop> {
+        if self.is_local(mention) {
+            return Ok(copy(mention)?);
+        }
+        self.global(Area::Value, mention)
+    }
+
+    /// A mention of an operator of values or of types.
+    pub(crate) fn operator(&mut self, area: Area, mention: &Mention) -> Result<Mention, Stop> {
+        let found = self.global(area, mention)?;
+        let _new = self
+            .operators
+            .insert(Key::new(area, &found.name.name, &found.name.module)?)?;
+        Ok(found)
+    }
+
+    /// A mention of a value or a constructor.
+    pub(crate) fn value_or_constructor(&mut self, mention: &Mention) -> Result<Mention, Stop> {
+        if is_upper(&mention.name.name) {
+            self.global(Area::Constructor, mention)
+        } else {
+            self.value(mention)
+        }
+    }
+
+    /// A value that a form mentions without its name being written.
+    pub(crate) fn made(&mut self, name: &str, span: Span) -> Result<Mention, Stop> {
+        let mention = Mention {
+            name: Qualified {
+                module: None,
+                name: Text::new(self.alloc, name)?,
+            },
+            span,
+        };
+        if self.is_local(&mention) {
+            return Ok(mention);
+        }
+        let module = self.module_of(Area::Value, &mention)?;
+        let Mention { name, span } = mention;
+        Ok(Mention {
+            name: Qualified {
+                module: Some(module),
+                name: name.name,
+            },
+            span,
+        })
+    }
+
+    /// A mention of a type variable.
+    pub(crate) fn type_var(&mut self, name: &IdentAt) -> Result<IdentAt, Stop> {
+        if self.type_vars.has(&name.name.0) {
+            return Ok(ident(name)?);
+        }
+        Err(wrong_name(self.alloc, Code::UnknownName, &name.name.0, name.span))
+    }
+}
+
+/// Whether a name begins as those of constructors and types do.
+pub(crate) fn is_upper(name: &Text) -> bool {
+    match name.as_str().chars().next() {
+        Some(letter) => begins_upper(letter),
+        None => false,
+    }
+}
+
+pub(crate) fn copy(mention: &Mention) -> Result<Mention, NoMemory> {
+    Ok(Mention {
+        name: mention.name.clone()?,
+        span: mention.span,
+    })
+}
+
+pub(crate) fn ident(name: &IdentAt) -> Result<IdentAt, NoMemory> {
+    Ok(IdentAt {
+        name: name.name.clone()?,
+        span: name.span,
+    })
+}

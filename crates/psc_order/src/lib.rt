@@ -1,0 +1,17 @@
+//! Operators become trees.
+//!
+//! Input: a module whose names are resolved, with the operators that it mentions. Output: the same module without chains,
+//! each operator's target in its place, or the one error of its operators.
+//! Chains follow the rule of right trees. A type or an expression that a bracket holds is a tree of its own.
+#![tactic(auto)]
+
+mod binders;
+mod binds;
+mod build;
+mod exprs;
+mod items;
+mod size;
+mod state;
+mod types;
+
+pub use items::rebracket;
