@@ -10,6 +10,7 @@ const asModule = (text) => text.replaceAll('/index.js"', '/index.mjs"').replaceA
 
 const foreign = `
 export const append = (a) => (b) => a + b;
+export const f = (g) => g(7);
 const other = 1;
 const word = 2;
 export { other as "f'", word as "new" };
@@ -46,7 +47,11 @@ const show = { show: (text) => `<${text}>` };
 // A module, what is asked of it, and the value.
 const rows = [
     ["M", (m) => m.x, 1],
-    ["Literals", (m) => m.least, -2147483648],
+    ["Plain", (m) => [m.x, m.y, m.z], [1, 2, 3]],
+    ["Ranks", (m) => m.g, 7],
+    ["Again", (m) => m.x, 1],
+    ["Literals", (m) => [m.least, m.greatest], [-2147483648, 2147483647]],
+    ["Literals", (m) => [m.empty, m.escapes], ["", "\u0000\b\f\n\r\t\u001f😀"]],
     ["Literals", (m) => m.text, 'a"b\\c\n\t\u0001/é'],
     ["Literals", (m) => [m.letter, m.umlaut, m.yes, m.no], ['"', "ü", true, false]],
     ["Literals", (m) => [m.none, m.some, m.bare], [[], [1, -2, [3]], {}]],
@@ -60,7 +65,7 @@ const rows = [
     ["Data.Maybe", (m) => [m.Nothing, m.Just(1)], [{ $: "Nothing" }, { $: "Just", value0: 1 }]],
     ["Pairs", (m) => [m.two, m.value0, m.$$NaN], [2, 0, { $: "NaN" }]],
     ["Use", (m) => [m.just, m.pair, m.keep(5)], [{ $: "Just", value0: 3 }, [1, 1], 5]],
-    ["Lets", (m) => [m.x, m.y, m.z, m.shadow, m.even, m.loop(6)], [1, 2, 3, [4, 1], "even", 6]],
+    ["Lets", (m) => [m.x, m.shadow, m.even, m.loop(6)], [1, [4, 1], "even", 6]],
     ["Cases", (m) => [7, -7, 'a"b', "λ", true, false].map(m.literals), ["seven", "minus seven", "text", "letter", "yes", "no"]],
     ["Cases", (m) => fails(() => m.literals(8)), "Failed pattern match"],
     ["Cases", (m) => [[], [4, [5]], [6]].map(m.arrays), [0, 4, 6]],
@@ -69,6 +74,10 @@ const rows = [
     ["Cases", (m) => [m.newtypes({ $: "Wrap", value0: 3, value1: 4 }), m.open, m.nested([1]), m.nested([2]), m.nested([])], [4, 1, "one", 2, "none"]],
     ["Cases", (m) => [m.guards(1)(true)(true), m.guards(1)(false)(true), m.guards(1)(false)(false), m.guards(2)(true)(false)], ["g", "h", "last", 2]],
     ["Cases", (m) => fails(() => m.none(1)), "Failed pattern match"],
+    ["Guards", (m) => [m.both(1)(true)(true), m.both(1)(true)(false), m.both(1)(false)(true), m.hollow(1)], ["both", 1, "none", 2]],
+    ["Binders", (m) => [m.given, m.years(6), m.names(7)], [5, 6, [7, 7, 7]]],
+    ["Binders", (m) => m.deep({ $: "Pair", value0: { "a b": [{ $: "Just", value0: -1 }, 2], b: 3 }, value1: false }), [{ $: "Just", value0: -1 }, 2]],
+    ["Binders", (m) => [m.deep([[]]), fails(() => m.deep([[1]]))], [[], "Failed pattern match"]],
     ["Places", (m) => [0, 1, 2].map(m.last), ["zero", "one", "other"]],
     ["Places", (m) => [1, 2, 3, 4].map(m.three), ["one", "two", "three", "other"]],
     ["S", (m) => m.show(m.showMaybe(show))(m.Just("x")), "Just <x>"],

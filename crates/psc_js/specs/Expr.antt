@@ -106,8 +106,8 @@ body outcome = outcome ++ codes "} "
 unfoldable pub alternative_parts : List JsTest → List JsPlaced → List ℕ → List ℕ
 alternative_parts ts vs outcome = condition ts vs ++ body outcome
 
-unfoldable pub guarded_parts : List ℕ → List ℕ → List ℕ
-guarded_parts g e = codes "if (" ++ g ++ codes ") { " ++ return_of e ++ codes "} "
+unfoldable pub guard : List ℕ → List ℕ
+guard g = codes "if (" ++ g ++ codes ") { "
 
 abbrev pub alternative_step : JsAlternative-F (List ℕ) (List ℕ) (List ℕ) (List ℕ) (List ℕ) (List ℕ) → List ℕ
 alternative_step a = alternative_parts a.tests a.variables a.outcome
@@ -119,7 +119,7 @@ abbrev pub field_step : JsField-F (List ℕ) (List ℕ) (List ℕ) (List ℕ) (L
 field_step f = pair f.label f.value
 
 abbrev pub guarded_step : JsGuarded-F (List ℕ) (List ℕ) (List ℕ) (List ℕ) (List ℕ) (List ℕ) → List ℕ
-guarded_step g = guarded_parts g.guard g.body
+guarded_step g = guard g.guard ++ body (return_of g.body)
 
 abbrev pub outcome_step : JsOutcome-F (List ℕ) (List ℕ) (List ℕ) (List ℕ) (List ℕ) (List ℕ) → List ℕ
 outcome_step (JsOutcome-F.Always e) = return_of e

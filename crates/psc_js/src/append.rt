@@ -44,6 +44,7 @@ fn put_digits(out: &mut String, number: i32) -> Result<(), NoMemory>
     put(out, Buffer::new().format(number))
 }
 
+#[tactic(auto, unfolding(crate::specs::Literal::negative))]
 fn put_negative(out: &mut String, number: i32) -> Result<(), NoMemory>
     ensures { IfOk result (λ _. string_bytes out.new ≡ string_bytes out.old ++ spec.negative number) }
 {

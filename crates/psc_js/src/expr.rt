@@ -453,21 +453,23 @@ fn put_guarded_ones(alloc: Global, out: &mut String, parts: &[JsGuarded]) -> Res
 fn put_guarded(alloc: Global, out: &mut String, part: &JsGuarded) -> Result<(), NoMemory>
     ensures { IfOk result (λ _. string_bytes out.new ≡ string_bytes out.old ++ spec.guarded part.now) }
 {
-    put_guarded_parts(alloc, out, &part.guard, &part.body)
+    put_guard(alloc, out, &part.guard)?;
+    put_guarded_body(alloc, out, &part.body)
 }
 
 #[cycle(expr)]
-fn put_guarded_parts(
-    alloc: Global,
-    out: &mut String,
-    guard: &JsExpr,
-    body: &JsExpr,
-) -> Result<(), NoMemory>
-    ensures { IfOk result (λ _. string_bytes out.new ≡ string_bytes out.old ++ spec.guarded_parts (spec.expr guard.now) (spec.expr body.now)) }
+fn put_guard(alloc: Global, out: &mut String, guard: &JsExpr) -> Result<(), NoMemory>
+    ensures { IfOk result (λ _. string_bytes out.new ≡ string_bytes out.old ++ spec.guard (spec.expr guard.now)) }
 {
     put(out, "if (")?;
     put_expr(alloc, out, guard)?;
-    put(out, ") { ")?;
+    put(out, ") { ")
+}
+
+#[cycle(expr)]
+fn put_guarded_body(alloc: Global, out: &mut String, body: &JsExpr) -> Result<(), NoMemory>
+    ensures { IfOk result (λ _. string_bytes out.new ≡ string_bytes out.old ++ spec.body (spec.return_of (spec.expr body.now))) }
+{
     put_return(alloc, out, body)?;
     put(out, "} ")
 }

@@ -10,10 +10,10 @@ use Rattle.psc_js_names.specs.Reserved.{is_reserved}
 use Rattle.psc_js_names.specs.Kinds.{IsSourceName, IsPart, AreParts, is_hex, begins_hex}
 use Rattle.psc_js_names.proofs.Hex.{HexFrom, hex_from, hex_same, all_hex, first, second}
 
-heads : (a b : ℕ) (xs ys : List ℕ) → a ∷ xs ≡ b ∷ ys → a ≡ b
+pub heads : (a b : ℕ) (xs ys : List ℕ) → a ∷ xs ≡ b ∷ ys → a ≡ b
 heads a b xs ys h = ap (λ (l : List ℕ). get_or l 0 0) h
 
-tails : (a b : ℕ) (xs ys : List ℕ) → a ∷ xs ≡ b ∷ ys → xs ≡ ys
+pub tails : (a b : ℕ) (xs ys : List ℕ) → a ∷ xs ≡ b ∷ ys → xs ≡ ys
 tails a b xs ys h = ap (λ (l : List ℕ). drop 1 l) h
 
 -- a list that is not empty equals no empty one
@@ -21,7 +21,7 @@ is_nil : List ℕ → Bool
 is_nil [] = true
 is_nil (x ∷ xs) = false
 
-nil_no_cons : (x : ℕ) (xs : List ℕ) → [] ≡ x ∷ xs → ⊥
+pub nil_no_cons : (x : ℕ) (xs : List ℕ) → [] ≡ x ∷ xs → ⊥
 unfolding is_nil
 nil_no_cons x xs h = true≢false (ap is_nil h)
 
@@ -33,7 +33,7 @@ pub data Written (c : ℕ) : Type 0 where
 plain_low : (c : ℕ) → is_plain c ≡ true → c < 128
 plain_low c h = grind (arith, nat_tests)
 
-plain_letter : (c : ℕ) → is_plain c ≡ true → letter c ≡ c ∷ []
+pub plain_letter : (c : ℕ) → is_plain c ≡ true → letter c ≡ c ∷ []
 unfolding letter
 plain_letter c h = ap (λ (b : Bool). if b then encode_utf8 c else coded c) h ∙ encode_ascii c (plain_low c h)
 
@@ -41,7 +41,7 @@ coded_letter : (c : ℕ) → is_plain c ≡ false → letter c ≡ 36 ∷ (digit
 unfolding letter coded
 coded_letter c h = ap (λ (b : Bool). if b then encode_utf8 c else coded c) h
 
-written : (c : ℕ) → Written c
+pub written : (c : ℕ) → Written c
 written c = elim (cases_Bool (is_plain c)) [ inl p ↦ stays p (plain_letter c p) | inr p ↦ is_coded (coded_letter c p) ]
 
 -- digits are no marks
@@ -58,7 +58,7 @@ split (a ∷ az) (b ∷ bs) r s p q h =
     (ap (λ (x : ℕ). x ∷ az) (heads _ _ _ _ h) ∙ ap (λ (l : List ℕ). b ∷ l) rest.0, rest.1)
 
 -- two characters at the front of two texts
-letter_apart : (c d : ℕ) (r s : List ℕ) → c < 2 ^ 21 → c ≢ 36 → d < 2 ^ 21 → d ≢ 36 → letter c ++ r ≡ letter d ++ s → (c ≡ d) × (r ≡ s)
+pub letter_apart : (c d : ℕ) (r s : List ℕ) → c < 2 ^ 21 → c ≢ 36 → d < 2 ^ 21 → d ≢ 36 → letter c ++ r ≡ letter d ++ s → (c ≡ d) × (r ≡ s)
 letter_apart c d r s low unmarked low' unmarked' h =
     elim (written c) as (λ _. (c ≡ d) × (r ≡ s)) [
       | stays p e ↦ elim (written d) as (λ _. (c ≡ d) × (r ≡ s)) [
@@ -75,13 +75,13 @@ letter_apart c d r s low unmarked low' unmarked' h =
       ]
     ]
 
-letter_not_nil : (c : ℕ) (r : List ℕ) → [] ≡ letter c ++ r → ⊥
+pub letter_not_nil : (c : ℕ) (r : List ℕ) → [] ≡ letter c ++ r → ⊥
 letter_not_nil c r h = elim (written c) as (λ _. ⊥) [
   | stays p e ↦ nil_no_cons _ _ (h ∙ ap (λ (l : List ℕ). l ++ r) e)
   | is_coded e ↦ nil_no_cons _ _ (h ∙ ap (λ (l : List ℕ). l ++ r) e)
 ]
 
-letters_apart : (x y : List ℕ) → IsSourceName x → IsSourceName y → letters x ≡ letters y → x ≡ y
+pub letters_apart : (x y : List ℕ) → IsSourceName x → IsSourceName y → letters x ≡ letters y → x ≡ y
 unfolding letters
 letters_apart [] [] a b h = refl
 letters_apart [] (d ∷ ds) a b h = absurd (letter_not_nil d (letters ds) h)
@@ -91,7 +91,7 @@ letters_apart (c ∷ cs) (d ∷ ds) a b h =
     ap (λ (z : ℕ). z ∷ cs) l.0 ∙ ap (λ (z : List ℕ). d ∷ z) (letters_apart cs ds a.2 b.2 l.1)
 
 -- what stands behind a mark at the front of a name begins with a digit
-behind_mark : (d : ℕ) (r s : List ℕ) → d ≢ 36 → 36 ∷ r ≡ letter d ++ s → begins_hex r ≡ true
+pub behind_mark : (d : ℕ) (r s : List ℕ) → d ≢ 36 → 36 ∷ r ≡ letter d ++ s → begins_hex r ≡ true
 behind_mark d r s unmarked h = elim (written d) as (λ _. begins_hex r ≡ true) [
   | stays p e ↦ let k : 36 ∷ r ≡ d ∷ s = h ∙ ap (λ (l : List ℕ). l ++ s) e in absurd (unmarked (sym (heads _ _ _ _ k)))
   | is_coded e ↦
@@ -101,10 +101,10 @@ behind_mark d r s unmarked h = elim (written d) as (λ _. begins_hex r ≡ true)
       ap begins_hex t ∙ f.digit
 ]
 
-two_marks : (d : ℕ) (r s : List ℕ) → d ≢ 36 → 36 ∷ 36 ∷ r ≡ letter d ++ s → ⊥
+pub two_marks : (d : ℕ) (r s : List ℕ) → d ≢ 36 → 36 ∷ 36 ∷ r ≡ letter d ++ s → ⊥
 two_marks d r s unmarked h = mark_no_digit (behind_mark d (36 ∷ r) s unmarked h)
 
-no_two_marks : (y r : List ℕ) → IsSourceName y → 36 ∷ 36 ∷ r ≡ letters y → ⊥
+pub no_two_marks : (y r : List ℕ) → IsSourceName y → 36 ∷ 36 ∷ r ≡ letters y → ⊥
 unfolding letters
 no_two_marks [] r b h = nil_no_cons _ _ (sym h)
 no_two_marks (d ∷ ds) r b h = two_marks d r (letters ds) b.1 h
@@ -152,7 +152,7 @@ one_last_mark true false x y a b h = no_two_marks y (letters x ++ 36 ∷ []) b h
 one_last_mark false true x y a b h = no_marks_before_last x y a h
 one_last_mark false false x y a b h = no_last_mark x y a b h
 
-shadows_apart : (p q m n : Bool) (x y : List ℕ) → IsSourceName x → IsSourceName y → (mark m ++ letters x) ++ behind p ≡ (mark n ++ letters y) ++ behind q → x ≡ y
+pub shadows_apart : (p q m n : Bool) (x y : List ℕ) → IsSourceName x → IsSourceName y → (mark m ++ letters x) ++ behind p ≡ (mark n ++ letters y) ++ behind q → x ≡ y
 unfolding behind
 shadows_apart true true m n x y a b h = marked_apart m n x y a b (last_off (mark m ++ letters x) (mark n ++ letters y) h)
 shadows_apart true false m n x y a b h = absurd (one_last_mark m n x y a b (h ∙ append-nil (mark n ++ letters y)))
@@ -163,7 +163,7 @@ pub local_apart : (top : List ℕ → Bool) (x y : List ℕ) → IsSourceName (c
 unfolding local printed
 local_apart top x y a b h = shadows_apart (top x) (top y) (is_reserved x) (is_reserved y) (chars x) (chars y) a b h
 
-from_behind : (p m n : Bool) (x y : List ℕ) → IsSourceName x → IsSourceName y → (mark m ++ letters x) ++ behind p ≡ mark n ++ letters y → (p ≡ false) × (x ≡ y)
+pub from_behind : (p m n : Bool) (x y : List ℕ) → IsSourceName x → IsSourceName y → (mark m ++ letters x) ++ behind p ≡ mark n ++ letters y → (p ≡ false) × (x ≡ y)
 unfolding behind
 from_behind true m n x y a b h = absurd (one_last_mark m n x y a b h)
 from_behind false m n x y a b h = (refl, marked_apart m n x y a b (sym (append-nil (mark m ++ letters x)) ∙ h))
@@ -174,7 +174,7 @@ unfolding local printed
 local_top_apart top x y a b h = from_behind (top x) (is_reserved x) (is_reserved y) (chars x) (chars y) a b h
 
 -- parts of a module's name
-until_mark : (x y r s : List ℕ) → IsSourceName x → IsSourceName y → begins_hex r ≡ false → begins_hex s ≡ false → letters x ++ 36 ∷ r ≡ letters y ++ 36 ∷ s → (x ≡ y) × (r ≡ s)
+pub until_mark : (x y r s : List ℕ) → IsSourceName x → IsSourceName y → begins_hex r ≡ false → begins_hex s ≡ false → letters x ++ 36 ∷ r ≡ letters y ++ 36 ∷ s → (x ≡ y) × (r ≡ s)
 unfolding letters
 until_mark [] [] r s a b p q h = (refl, tails _ _ _ _ h)
 until_mark [] (d ∷ ds) r s a b p q h = absurd (false≢true (sym p ∙ behind_mark d r (letters ds ++ 36 ∷ s) b.1 (h ∙ append_assoc (letter d) (letters ds) (36 ∷ s))))
@@ -184,18 +184,18 @@ until_mark (c ∷ cs) (d ∷ ds) r s a b p q h =
     let more = until_mark cs ds r s a.2 b.2 p q l.1 in
     (ap (λ (z : ℕ). z ∷ cs) l.0 ∙ ap (λ (z : List ℕ). d ∷ z) more.0, more.1)
 
-part_two_marks : (y r s : List ℕ) → IsPart y → 36 ∷ 36 ∷ r ≡ letters y ++ s → ⊥
+pub part_two_marks : (y r s : List ℕ) → IsPart y → 36 ∷ 36 ∷ r ≡ letters y ++ s → ⊥
 unfolding letters
 part_two_marks [] r s b h = b.0
 part_two_marks (d ∷ ds) r s b h = two_marks d r (letters ds ++ s) b.1.1 (h ∙ append_assoc (letter d) (letters ds) s)
 
-letter_no_digit : (c : ℕ) (r : List ℕ) → is_hex c ≡ false → begins_hex (letter c ++ r) ≡ false
+pub letter_no_digit : (c : ℕ) (r : List ℕ) → is_hex c ≡ false → begins_hex (letter c ++ r) ≡ false
 letter_no_digit c r k = elim (written c) as (λ _. begins_hex (letter c ++ r) ≡ false) [
   | stays p e ↦ ap (λ (l : List ℕ). begins_hex (l ++ r)) e ∙ k
   | is_coded e ↦ ap (λ (l : List ℕ). begins_hex (l ++ r)) e
 ]
 
-letters_no_digit : (x r : List ℕ) → IsPart x → begins_hex (letters x ++ r) ≡ false
+pub letters_no_digit : (x r : List ℕ) → IsPart x → begins_hex (letters x ++ r) ≡ false
 unfolding letters
 letters_no_digit [] r a = absurd a.0
 letters_no_digit (c ∷ cs) r a = ap begins_hex (append_assoc (letter c) (letters cs) r) ∙ letter_no_digit c (letters cs ++ r) a.0
@@ -209,7 +209,7 @@ append_not_nil : (a : List ℕ) (x : ℕ) (xs : List ℕ) → [] ≡ a ++ x ∷ 
 append_not_nil [] x xs h = nil_no_cons _ _ h
 append_not_nil (a ∷ az) x xs h = nil_no_cons _ _ h
 
-part_not_nil : (p rest : List ℕ) → [] ≡ part p ++ rest → ⊥
+pub part_not_nil : (p rest : List ℕ) → [] ≡ part p ++ rest → ⊥
 unfolding part
 part_not_nil p rest h = append_not_nil (printed p) 36 rest (h ∙ append_assoc (printed p) (36 ∷ []) rest)
 
@@ -220,12 +220,12 @@ marked_until true false x y r s a b p q h = absurd (part_two_marks y (letters x 
 marked_until false true x y r s a b p q h = absurd (part_two_marks x (letters y ++ 36 ∷ s) (36 ∷ r) a (sym h))
 marked_until false false x y r s a b p q h = until_mark x y r s a.1 b.1 p q h
 
-begins_no_digit : (ps : List (List ℕ)) → AreParts ps → begins_hex (parts ps) ≡ false
+pub begins_no_digit : (ps : List (List ℕ)) → AreParts ps → begins_hex (parts ps) ≡ false
 unfolding parts part printed
 begins_no_digit [] a = refl
 begins_no_digit (p ∷ ps) a = front_no_digit (is_reserved p) (chars p) (parts ps) a.0
 
-part_assoc : (p rest : List ℕ) → part p ++ rest ≡ printed p ++ 36 ∷ rest
+pub part_assoc : (p rest : List ℕ) → part p ++ rest ≡ printed p ++ 36 ∷ rest
 unfolding part
 part_assoc p rest = append_assoc (printed p) (36 ∷ []) rest
 
@@ -238,7 +238,7 @@ parts_apart (p ∷ ps) (q ∷ qs) a b h =
     let l = marked_until (is_reserved p) (is_reserved q) (chars p) (chars q) (parts ps) (parts qs) a.0 b.0 (begins_no_digit ps a.1) (begins_no_digit qs b.1) (sym (part_assoc p (parts ps)) ∙ h ∙ part_assoc q (parts qs)) in
     ap (λ (z : List ℕ). z ∷ map chars ps) l.0 ∙ ap (λ (z : List (List ℕ)). chars q ∷ z) (parts_apart ps qs a.1 b.1 l.1)
 
-text_same : (x y : List ℕ) → IsUtf8 x → IsUtf8 y → chars x ≡ chars y → x ≡ y
+pub text_same : (x y : List ℕ) → IsUtf8 x → IsUtf8 y → chars x ≡ chars y → x ≡ y
 text_same x y p q h = sym (encodes-chars x p) ∙ ap encode_utf8_all h ∙ encodes-chars y q
 
 pub names_apart : (x y : List ℕ) → IsUtf8 x → IsUtf8 y → IsSourceName (chars x) → IsSourceName (chars y) → printed x ≡ printed y → x ≡ y

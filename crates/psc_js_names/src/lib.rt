@@ -12,6 +12,7 @@ mod names;
 mod reserved;
 
 pub use laws::{
-    aliases_print_apart, local_is_no_name_at_the_top, locals_print_apart, names_print_apart,
+    alias_is_no_name, alias_is_no_other_local, aliases_print_apart, local_is_no_name_at_the_top,
+    locals_print_apart, names_print_apart,
 };
 pub use names::{add_name, alias, local, printed};

@@ -12,6 +12,7 @@ use std::test::Fail;
 
 /// A module: its lists are words, a row of the re-exports begins with the module's name, and its bindings
 /// are in the notation.
+#[derive(Clone, Copy)]
 struct Row {
     name: &'static str,
     imports: &'static str,
@@ -106,6 +107,33 @@ fn a_module_of_one_binding(rt: HostRuntime) -> Result<(), Fail> {
     shows(&rt, rt.alloc(), &row, texts::ONE)
 }
 
+/// `x = let a = 1 in a`, `y = (case x of _ -> 2)`, and `z = w` where `w` is `3`.
+#[test]
+fn local_bindings_and_a_case_of_anything(rt: HostRuntime) -> Result<(), Fail> {
+    let row = plain(
+        "Plain",
+        "x y z",
+        ".bind x .let 1 .bind a .int 1 .local a \
+         .bind y .case 1 1 .own x .gives 1 .any .int 2 \
+         .bind z .let 1 .bind w .int 3 .local w",
+    );
+    shows(&rt, rt.alloc(), &row, texts::PLAIN)
+}
+
+/// `g = f (\x -> x)`, where `f` is a foreign value.
+#[test]
+fn a_function_is_an_argument(rt: HostRuntime) -> Result<(), Fail> {
+    let row = Row {
+        name: "Ranks",
+        imports: "",
+        foreign: "f",
+        exports: "f g",
+        re_exports: &[],
+        binds: ".bind g .call .own f .lambda x .local x",
+    };
+    shows(&rt, rt.alloc(), &row, texts::RANKS)
+}
+
 #[test]
 fn a_module_without_exports_has_no_line_of_them(rt: HostRuntime) -> Result<(), Fail> {
     shows(
@@ -121,9 +149,12 @@ fn a_module_without_exports_has_no_line_of_them(rt: HostRuntime) -> Result<(), F
 fn literals_arrays_and_records(rt: HostRuntime) -> Result<(), Fail> {
     let row = plain(
         "Literals",
-        "bare full least letter no none one some text umlaut yes",
+        "bare empty escapes full greatest least letter no none one some text umlaut yes",
         ".bind one .int 1 \
          .bind least .int -2147483648 \
+         .bind greatest .int 2147483647 \
+         .bind empty .str | \
+         .bind escapes .str \u{0}\u{8};^`%\u{1f}😀 \
          .bind text .str a\"b\\c^%\u{1}/é \
          .bind letter .chr \" \
          .bind umlaut .chr ü \
@@ -242,13 +273,24 @@ fn imports_have_aliases_and_re_exports_lines_of_their_own(rt: HostRuntime) -> Re
 }
 
 #[test]
+fn a_module_may_only_export_again(rt: HostRuntime) -> Result<(), Fail> {
+    let row = Row {
+        name: "Again",
+        imports: "M",
+        foreign: "",
+        exports: "",
+        re_exports: &["M x"],
+        binds: "",
+    };
+    shows(&rt, rt.alloc(), &row, texts::AGAIN)
+}
+
+#[test]
 fn local_bindings_are_constants_of_a_function(rt: HostRuntime) -> Result<(), Fail> {
     let row = plain(
         "Lets",
-        "again even loop shadow x y z",
+        "again even loop shadow x",
         ".bind x .let 1 .bind a .int 1 .local a \
-         .bind y .case 1 1 .own x .gives 1 .any .int 2 \
-         .bind z .let 1 .bind w .int 3 .local w \
          .bind shadow .let 2 .bind x .int 4 .bind b .array 2 .local x .own x .local b \
          .bind even .let 1 .rec 2 \
              .binding isEven .lambda n .case 1 2 .local n \
@@ -299,6 +341,45 @@ fn binders_are_tests_and_constants(rt: HostRuntime) -> Result<(), Fail> {
              .gives 1 .any .str none",
     );
     shows(&rt, rt.alloc(), &row, texts::CASES)
+}
+
+/// The tests of one guard are cases in one another, which are false where one fails.
+#[test]
+fn a_guard_may_have_several_tests(rt: HostRuntime) -> Result<(), Fail> {
+    let row = plain(
+        "Guards",
+        "both hollow",
+        ".bind both .lambda v .lambda a .lambda b .case 1 2 .local v \
+             .guards 1 2 .var x \
+                 .when .case 1 2 .local a .gives 1 .is-true .local b .gives 1 .any .false .str both \
+                 .when .local a .local x \
+             .gives 1 .any .str none \
+         .bind hollow .lambda v .case 1 2 .local v .guards 1 0 .is-int 1 .gives 1 .any .int 2",
+    );
+    shows(&rt, rt.alloc(), &row, texts::GUARDS)
+}
+
+/// A newtype's constructor is a function that gives its argument, and its binder looks at the same place.
+#[test]
+fn binders_stand_in_one_another(rt: HostRuntime) -> Result<(), Fail> {
+    let row = plain(
+        "Binders",
+        "Age deep given names years",
+        ".bind Age .lambda x .local x \
+         .bind given .call .own Age .int 5 \
+         .bind years .lambda v .case 1 1 .local v .gives 1 .newtype Age .var n .local n \
+         .bind names .lambda v .case 1 1 .local v \
+             .gives 1 .named a .named years .var c .array 3 .local a .local years .local c \
+         .bind deep .lambda v .case 1 2 .local v \
+             .gives 1 .made Pair 2 \
+                 .is-object 2 .part b .any .part a~b .is-array 2 \
+                     .newtype Age .named w .made Just 1 .is-int -1 \
+                     .var z \
+                 .is-false \
+                 .array 2 .local w .local z \
+             .gives 1 .is-array 1 .is-array 0 .array 0",
+    );
+    shows(&rt, rt.alloc(), &row, texts::BINDERS)
 }
 
 /// A case of which a branch has a test of its own goes on behind it at a place, which is a function.
@@ -361,10 +442,10 @@ fn dictionaries_are_records_and_parameters(rt: HostRuntime) -> Result<(), Fail> 
 fn superclasses_are_fields_that_are_applied(rt: HostRuntime) -> Result<(), Fail> {
     let row = plain(
         "Ord",
-        "eqInt lt ordInt same yes",
+        "$Eq_Int lt ordInt same yes",
         ".bind lt .lambda $d0 .get lt .local $d0 \
-         .bind eqInt .object 1 .field eq .lambda a .lambda b .local a \
-         .bind ordInt .object 2 .field $super0 .lambda $u .own eqInt \
+         .bind $Eq_Int .object 1 .field eq .lambda a .lambda b .local a \
+         .bind ordInt .object 2 .field $super0 .lambda $u .own $Eq_Int \
              .field lt .lambda a .lambda b .local b \
          .bind same .lambda $d0 .lambda a .call .call \
              .get eq .call .get $super0 .local $d0 .of Prim undefined .local a .local a \

@@ -54,13 +54,16 @@ fn take<T: Drop>(alloc: Global, stack: &mut Vec<T>, count: usize) -> Result<Item
     Ok(taken)
 }
 
-/// The character that is meant by one of a text.
-fn meant(letter: char) -> char {
+/// The character that is meant by one of a text, or none.
+fn meant(letter: char) -> Option<char> {
     match letter {
-        '~' => ' ',
-        '^' => '\n',
-        '%' => '\t',
-        _ => letter,
+        '|' => None,
+        '~' => Some(' '),
+        '^' => Some('\n'),
+        '%' => Some('\t'),
+        '`' => Some('\r'),
+        ';' => Some('\u{c}'),
+        _ => Some(letter),
     }
 }
 
@@ -68,7 +71,9 @@ fn meant(letter: char) -> char {
 fn text_meant(alloc: Global, word: &str) -> Result<Text, NoMemory> {
     let mut text = String::new(alloc);
     for letter in word.chars() {
-        text.push(meant(letter))?;
+        if let Some(letter) = meant(letter) {
+            text.push(letter)?;
+        }
     }
     Text::from_string(text)
 }

@@ -6,9 +6,26 @@ pub const ONE: &str = r#"const x = 1;
 export { x };
 "#;
 
+/// The module `Plain`.
+pub const PLAIN: &str = r#"const x = (() => { const a = 1; return a; })();
+const y = (() => { const $c0 = x; if (true) { return 2; } throw new Error("Failed pattern match"); })();
+const z = (() => { const w = 3; return w; })();
+export { x, y, z };
+"#;
+
+/// The module `Ranks`.
+pub const RANKS: &str = r#"import * as $foreign from "./foreign.js";
+const f = $foreign["f"];
+const g = f(((x) => x));
+export { f, g };
+"#;
+
 /// The module `Literals`.
 pub const LITERALS: &str = r#"const one = 1;
 const least = (-2147483648);
+const greatest = 2147483647;
+const empty = "";
+const escapes = "\u0000\b\f\n\r\t\u001f😀";
 const text = "a\"b\\c\n\t\u0001/é";
 const letter = "\"";
 const umlaut = "ü";
@@ -18,7 +35,7 @@ const none = [];
 const some = [1, (-2), [3]];
 const bare = ({});
 const full = ({"b": 1, "a'\"": "v", "B": ({"c": 2})});
-export { bare, full, least, letter, no, none, one, some, text, umlaut, yes };
+export { bare, empty, escapes, full, greatest, least, letter, no, none, one, some, text, umlaut, yes };
 "#;
 
 /// The module `Records`.
@@ -94,19 +111,22 @@ export { Just } from "../Data.Maybe/index.js";
 export { $$undefined, keep } from "../Names/index.js";
 "#;
 
+/// The module `Again`.
+pub const AGAIN: &str = r#"import * as M$ from "../M/index.js";
+export { x } from "../M/index.js";
+"#;
+
 /// The module `Silent`.
 pub const SILENT: &str = r#"const hidden = 1;
 "#;
 
 /// The module `Lets`.
 pub const LETS: &str = r#"const x = (() => { const a = 1; return a; })();
-const y = (() => { const $c0 = x; if (true) { return 2; } throw new Error("Failed pattern match"); })();
-const z = (() => { const w = 3; return w; })();
 const shadow = (() => { const x$ = 4; const b = [x$, x]; return b; })();
 const even = (() => { const isEven = ((n) => (() => { const $c0 = n; if ($c0 === true) { return isOdd(false); } if ($c0 === false) { return "even"; } throw new Error("Failed pattern match"); })()); const isOdd = ((m) => isEven(m)); return isEven(true); })();
 const loop = ((n) => again(n));
 const again = ((n) => n);
-export { again, even, loop, shadow, x, y, z };
+export { again, even, loop, shadow, x };
 "#;
 
 /// The module `Cases`.
@@ -121,6 +141,22 @@ const open = (() => { if (true) { return 1; } throw new Error("Failed pattern ma
 const none = ((v) => (() => { const $c0 = v; throw new Error("Failed pattern match"); })());
 const nested = ((v) => (() => { const $c0 = v; if ($c0["length"] === 1) { const x = $c0[0]; return (() => { const $c0 = x; if ($c0 === 1) { return "one"; } if (true) { const y = $c0; return y; } throw new Error("Failed pattern match"); })(); } if (true) { return "none"; } throw new Error("Failed pattern match"); })());
 export { arrays, guards, literals, nested, newtypes, none, open, records, two };
+"#;
+
+/// The module `Guards`.
+pub const GUARDS: &str =
+    r#"const both = ((v) => ((a) => ((b) => (() => { const $c0 = v; if (true) { const x = $c0; if ((() => { const $c0 = a; if ($c0 === true) { return b; } if (true) { return false; } throw new Error("Failed pattern match"); })()) { return "both"; } if (a) { return x; } } if (true) { return "none"; } throw new Error("Failed pattern match"); })())));
+const hollow = ((v) => (() => { const $c0 = v; if ($c0 === 1) { } if (true) { return 2; } throw new Error("Failed pattern match"); })());
+export { both, hollow };
+"#;
+
+/// The module `Binders`.
+pub const BINDERS: &str = r#"const Age = ((x) => x);
+const given = Age(5);
+const years = ((v) => (() => { const $c0 = v; if (true) { const n = $c0; return n; } throw new Error("Failed pattern match"); })());
+const names = ((v) => (() => { const $c0 = v; if (true) { const a = $c0; const years$ = $c0; const c = $c0; return [a, years$, c]; } throw new Error("Failed pattern match"); })());
+const deep = ((v) => (() => { const $c0 = v; if ($c0["$"] === "Pair" && $c0["value0"]["a b"]["length"] === 2 && $c0["value0"]["a b"][0]["$"] === "Just" && $c0["value0"]["a b"][0]["value0"] === (-1) && $c0["value1"] === false) { const w = $c0["value0"]["a b"][0]; const z = $c0["value0"]["a b"][1]; return [w, z]; } if ($c0["length"] === 1 && $c0[0]["length"] === 0) { return []; } throw new Error("Failed pattern match"); })());
+export { Age, deep, given, names, years };
 "#;
 
 /// The module `Places`.
@@ -143,11 +179,11 @@ export { Just, Nothing, append, show, showMaybe, twice };
 
 /// The module `Ord`.
 pub const SUPERS: &str = r#"const lt = (($d0) => $d0["lt"]);
-const eqInt = ({"eq": ((a) => ((b) => a))});
-const ordInt = ({"$super0": (($u) => eqInt), "lt": ((a) => ((b) => b))});
+const $Eq_Int = ({"eq": ((a) => ((b) => a))});
+const ordInt = ({"$super0": (($u) => $Eq_Int), "lt": ((a) => ((b) => b))});
 const same = (($d0) => ((a) => $d0["$super0"](undefined)["eq"](a)(a)));
 const yes = same(ordInt)("yes");
-export { eqInt, lt, ordInt, same, yes };
+export { $Eq_Int, lt, ordInt, same, yes };
 "#;
 
 /// The module `W0`.

@@ -70,6 +70,10 @@ pub put_body-returns : goal.put_body-returns
 unfolding expr_text.body
 put_body-returns t c = last c.put.result c.args.out.now c.put_outcome.new.out c.put.new.out _ _ c.in_ok-put_outcome.ensures c.put.ensures
 
-pub put_guarded_parts-returns : goal.put_guarded_parts-returns
-unfolding expr_text.guarded_parts
-put_guarded_parts-returns t c = last c.put-3.result c.args.out.now c.put_return.new.out c.put-3.new.out _ _ (more c.args.out.now c.put-2.new.out c.put_return.new.out _ _ (more c.args.out.now c.put_expr.new.out c.put-2.new.out _ _ (more c.args.out.now c.put.new.out c.put_expr.new.out _ _ c.in_ok-put.ensures c.in_ok-put_expr.ensures) c.in_ok-put-2.ensures) c.in_ok-put_return.ensures) c.put-3.ensures
+pub put_guard-returns : goal.put_guard-returns
+unfolding expr_text.guard
+put_guard-returns t c = last c.put-2.result c.args.out.now c.put_expr.new.out c.put-2.new.out _ _ (more c.args.out.now c.put.new.out c.put_expr.new.out _ _ c.in_ok-put.ensures c.in_ok-put_expr.ensures) c.put-2.ensures
+
+pub put_guarded_body-returns : goal.put_guarded_body-returns
+unfolding expr_text.body
+put_guarded_body-returns t c = last c.put.result c.args.out.now c.put_return.new.out c.put.new.out _ _ c.in_ok-put_return.ensures c.put.ensures

@@ -5,4 +5,4 @@ use Rattle.psc_js.specs.Expr as spec
 use Rattle.psc_js.proofs.expr.put_ends.Given as goal
 
 abbrev pub invariant-loop-row : goal.invariant-loop-row
-invariant-loop-row l = string_bytes l.out ++ joined (map spec.end_of (drop l.row-index l.parameters)) ≡ string_bytes l.initial.out ++ joined (map spec.end_of l.parameters)
+invariant-loop-row l = string_bytes l.out ++ joined (map spec.end_of (drop l._row-index l.parameters)) ≡ string_bytes l.initial.out ++ joined (map spec.end_of l.parameters)

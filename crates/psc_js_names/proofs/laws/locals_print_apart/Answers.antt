@@ -1,5 +1,5 @@
-use Rattle.psc_js_names.proofs.Apart.{locals_apart}
+use Rattle.psc_js_names.proofs.Made.{all_locals_apart}
 use Rattle.psc_js_names.proofs.laws.locals_print_apart.Goals as goal
 
 pub returns : goal.returns
-returns c = locals_apart
+returns c = all_locals_apart
