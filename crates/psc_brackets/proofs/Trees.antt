@@ -1,5 +1,5 @@
 -- A chain has at most one right tree, and none where operators clash.
-use Rattle.std.proofs.Common.{◌≡◌, ℕ, ◌+◌, ◌<◌, ◌≤◌, zero, suc, List, [], ◌∷◌, ◌++◌, length, length-append, take, append_assoc, Some, slice_get, ap, refl, sym, ◌∙◌, arith}
+use Rattle.std.proofs.Common.{◌≡◌, ℕ, ◌<◌, ◌≤◌, List, [], ◌∷◌, ◌++◌, append_assoc, ap, refl, sym, ◌∙◌, arith}
 use Rattle.psc_ast.specs.declared.order.Side.{Side}
 use Rattle.psc_ast.specs.declared.order.Side.TheVariants as side
 use Rattle.psc_brackets.specs.declared.chain.Operator.{Operator}

@@ -1,14 +1,13 @@
 -- What the stack of operators keeps.
-use Rattle.std.proofs.Common.{◌≡◌, ℕ, ◌+◌, ◌<◌, ◌≤◌, ◌⊎◌, inl, inr, zero, suc, List, [], ◌∷◌, ◌++◌, length, length-append, take, append_assoc, Option, Some, None, MatchOption, slice_get, ap, refl, sym, ◌∙◌, arith, add-one, get_or}
+use Rattle.std.proofs.Common.{◌≡◌, ℕ, ◌+◌, ◌<◌, ◌≤◌, ◌⊎◌, inl, inr, zero, suc, List, [], ◌∷◌, ◌++◌, length, length-append, take, append_assoc, Option, Some, None, MatchOption, slice_get, ap, refl, sym, ◌∙◌, arith, add-one}
 use Rattle.std.proofs.lemmas.List.{length-take-le, take_all}
-use Rattle.std.proofs.lemmas.Option.{slice_get_within, slice_get-get_or}
-use Rattle.std.proofs.Math.Seq.{take-suc}
+use Rattle.std.proofs.lemmas.Option.{slice_get_within}
 use Rattle.psc_ast.specs.declared.order.Side.TheVariants as side
 use Rattle.psc_brackets.specs.declared.chain.Operator.{Operator}
 use Rattle.psc_brackets.specs.declared.chain.Turn.{Turn}
 use Rattle.psc_brackets.specs.declared.chain.Turn.TheVariants as turn
 use Rattle.psc_brackets.specs.declared.chain.Clash.{Clash}
-use Rattle.psc_brackets.specs.Right.{Tree, Leaf, Node, operators_of, walk, MayStand, Tighter, Alike, MayStandBelow, IsRight, AllTighter, IsClash, IsTheWalk, IsTheClash}
+use Rattle.psc_brackets.specs.Right.{Tree, Leaf, Node, operators_of, walk, MayStand, MayStandBelow, IsRight, IsClash, IsTheWalk, IsTheClash}
 use Rattle.psc_brackets.specs.Stack.{Waiter, read, numbers, told, OnTop, TreeOnTop, AllStand, Waits, Holds, HoldsTree, HoldsLeft, Settles}
 use Rattle.psc_brackets.proofs.Trees.{one_tree, no_clash, all_tighter}
 

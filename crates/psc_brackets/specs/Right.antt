@@ -1,5 +1,5 @@
 -- Right trees over chains of operators, and operators that cannot stand in one.
-use Rattle.std.specs.Prelude.{◌≡◌, ℕ, ◌+◌, ◌<◌, ◌≤◌, List, [], ◌∷◌, ◌++◌, length, Result, Ok, Err}
+use Rattle.std.specs.Prelude.{◌≡◌, ℕ, ◌+◌, ◌<◌, ◌≤◌, List, [], ◌∷◌, ◌++◌, length}
 use Rattle.psc_ast.specs.declared.order.Side.{Side}
 use Rattle.psc_ast.specs.declared.order.Side.TheVariants as side
 use Rattle.psc_brackets.specs.declared.chain.Operator.{Operator}

@@ -1,5 +1,5 @@
 -- The stack of operators that wait for their right operands.
-use Rattle.std.specs.Prelude.{◌≡◌, ℕ, ◌+◌, ◌<◌, List, [], ◌∷◌, ◌++◌, length, take, slice_get, Some}
+use Rattle.std.specs.Prelude.{◌≡◌, ℕ, ◌+◌, List, [], ◌∷◌, ◌++◌, length, take, slice_get, Some}
 use Rattle.psc_ast.specs.declared.order.Side.TheVariants as side
 use Rattle.psc_brackets.specs.declared.chain.Operator.{Operator}
 use Rattle.psc_brackets.specs.declared.chain.Turn.{Turn}

@@ -310,7 +310,7 @@ module _ (m : List (Vec ℕ Global)) (declared : AllDeclared m) (numbers : List 
           where
             is_set : (b : Bool) → IsTrue b → Some b ≡ Some true
             is_set true t = refl
-            is_set false t = absurd t
+            is_set false t = absurd cc
 
         flagged : (i k : ℕ) (g : BindingGroup) → slice_get order i ≡ Some k → IsGroupOf M R k g → MentionsItself m groups i → IsTrue g.recursive
         flagged i k g e o x =
@@ -322,5 +322,21 @@ module _ (m : List (Vec ℕ Global)) (declared : AllDeclared m) (numbers : List 
             is_true g.recursive (sym o.flag ∙ set)
           where
             is_true : (b : Bool) → Some b ≡ Some true → IsTrue b
-            is_true true e = tt
+            is_true true e = refl
             is_true false e = absurd cc
+
+pub more_groups : (M : List (Vec ℕ Global)) (R : List Bool) (order : List ℕ) (place number : ℕ) (group : BindingGroup) (old new : List BindingGroup) → AreGroups M R order place old → slice_get order place ≡ Some number → IsGroupOf M R number group → new ≡ old ++ group ∷ [] → AreGroups M R order (place + 1) new
+more_groups M R order place number group old new are is of e = record {
+  sized = ap length e ∙ length-append old (group ∷ []) ∙ (let z = are.sized in omega arith);
+  each = λ i k g at has. elim (after_push old group i g (rw e at has)) [
+    | inl p ↦ (let same : k ≡ number = same_item order place k number (let z : i ≡ place = p.0 ∙ are.sized in rw z at at) is in rw (same, p.1) of)
+    | inr p ↦ are.each i k g at p
+  ];
+}
+
+pub no_groups : (M : List (Vec ℕ Global)) (R : List Bool) (order : List ℕ) (groups : List BindingGroup) → groups ≡ [] → AreGroups M R order 0 groups
+no_groups M R order groups e = rw e (record { sized = refl; each = λ i k g at has. absurd cc })
+
+-- a group in the order is one that has members
+pub ordered_within : (L M : List (Vec ℕ Global)) (order : List ℕ) → IsOrder L M order → (i k : ℕ) → slice_get order i ≡ Some k → k < length M
+ordered_within L M order o i k e = let f = o.ordered.known i k e in within M k f.1.list f.1.has

@@ -7,3 +7,4 @@ pub mod Steps
 pub mod Maps
 pub mod Placing
 pub mod Joining
+pub mod Declaring

@@ -84,3 +84,10 @@ module _ {A : Type 0} where
   same_last (a ∷ []) [] x y e = absurd cc
   same_last (a ∷ (c ∷ xs)) [] x y e = absurd cc
   same_last (a ∷ xs) (b ∷ ys) x y e = let t : xs ++ x ∷ [] ≡ ys ++ y ∷ [] = cc in let h : a ≡ b = cc in let r = same_last xs ys x y t in (let q = r.0 in cc, r.1)
+
+  pub unwritten_same : (xs : List A) (i : ℕ) (y : A) (k : ℕ) → (k ≡ i → ⊥) → slice_get (slice_set xs i y) k ≡ slice_get xs k
+  unwritten_same [] i y k ne = refl
+  unwritten_same (x ∷ xs) zero y zero ne = absurd (ne refl)
+  unwritten_same (x ∷ xs) zero y (suc k) ne = refl
+  unwritten_same (x ∷ xs) (suc i) y zero ne = refl
+  unwritten_same (x ∷ xs) (suc i) y (suc k) ne = unwritten_same xs i y k (λ e. ne (ap suc e))

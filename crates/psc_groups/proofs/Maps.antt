@@ -33,6 +33,9 @@ no_entries old never f = none old.entries never f
     none [] never f = refl
     none (e ∷ es) never f = absurd (never (omega arith))
 
+pub none_ready : (new : BTreeMap ℕ ℕ) → btree_map_len new ≡ 0 → (f : ℕ) → get nat_cmp new f ≡ None
+none_ready new e f = no_entries new (λ lt. omega arith) f
+
 pub takes_ready : (old new : BTreeMap ℕ ℕ) (r : Option (ℕ × ℕ)) → (IsSome r ↔ (0 < btree_map_len old)) → IfSome r (λ p. get nat_cmp old p.0 ≡ Some p.1) → IfSome r (λ p. IsLowerBound nat_cmp old p.0) → IfSome r (λ p. Updates nat_cmp old new p.0 None) → MatchOption r ((f : ℕ) → get nat_cmp old f ≡ None) (λ p. TakesReady old new p.0 p.1)
 takes_ready old new None variant value least updates = no_entries old (λ lt. let z : false ≡ true = variant.1 lt in cc)
 takes_ready old new (Some p) variant value least updates = record {

@@ -7,7 +7,7 @@ use Rattle.std.specs.declared.alloc.Global.{Global}
 use Rattle.psc_groups.specs.Graph.{Mentions}
 use Rattle.psc_groups.specs.Order.{FirstOf, StandsIn, StandsBefore, StandsFrom, CanOrder, IsOrdered, IsOrder, IsPlaced, IsQueue, Stand, Placed, Ready, Waits, Empty, StandBelow, AlsoStands, IsNext, IsUnplaced, AllPlaced, Adds, Takes, AddsReady, TakesReady, AllStandBut, AllLinksPlaced, IsPlaceOf, TargetAt, WaitsAt}
 use Rattle.psc_groups.specs.declared.order.Queue.{Queue}
-use Rattle.psc_groups.proofs.Lists.{after_push, before, pushed, after_write, unwritten, written, within, some_at, same_item}
+use Rattle.psc_groups.proofs.Lists.{after_push, before, pushed, after_write, unwritten, unwritten_same, written, within, some_at, same_item}
 
 -- two numbers are equal or not
 pub same_or_not : (m n : ℕ) → (m ≡ n) ⊎ (m ≡ n → ⊥)
@@ -449,3 +449,24 @@ when_true b P both e = both.0 e
 
 pub when_false : (b : Bool) (P : Type 0) → IsTrue b ↔ P → b ≡ false → P → ⊥
 when_false b P both e p = let t : b ≡ true = both.1 p in cc
+
+-- one list of several is written
+pub adds_set : {A : Type 0} → (old : List (Vec A Global)) (at : ℕ) (v w : Vec A Global) (item : A) → slice_get old at ≡ Some v → w.items ≡ v.items ++ item ∷ [] → Adds old (slice_set old at w) at item
+adds_set old at v w item has e = record {
+  sized = length-set old at w;
+  list = λ u is. (w, written old at w v has, let same : u ≡ v = same_item old at u v is has in rw same e);
+  others = λ k ne. unwritten_same old at w k ne;
+}
+
+-- the loop that makes the lists of the queue
+pub zeros_more : (xs ys : List ℕ) → ys ≡ xs ++ 0 ∷ [] → ((g n : ℕ) → slice_get xs g ≡ Some n → n ≡ 0) → (g n : ℕ) → slice_get ys g ≡ Some n → n ≡ 0
+zeros_more xs ys e all g n at = elim (after_push xs 0 g n (rw e at at)) [ inl p ↦ p.1 | inr p ↦ all g n p ]
+
+pub none_more : (xs ys : List (Vec ℕ Global)) (v : Vec ℕ Global) → ys ≡ xs ++ v ∷ [] → v.items ≡ [] → ((t g : ℕ) → Mentions xs t g → ⊥) → (t g : ℕ) → Mentions ys t g → ⊥
+none_more xs ys v e empty none t g m = elim (after_push xs v t m.list (rw e at m.has)) [
+  | inl p ↦ (let same : m.list.items ≡ [] = ap (λ (u : Vec ℕ Global). u.items) p.1 ∙ empty in let z : slice_get {X = ℕ} [] m.place ≡ Some g = rw same at m.at in cc)
+  | inr p ↦ none t g (record { list = m.list; place = m.place; has = p; at = m.at })
+]
+
+pub new_more : (xs ys : List Bool) → ys ≡ xs ++ false ∷ [] → ((g : ℕ) → IsPlaced xs g → ⊥) → (g : ℕ) → IsPlaced ys g → ⊥
+new_more xs ys e none g at = elim (after_push xs false g true (rw e at at)) [ inl p ↦ (let z : true ≡ false = p.1 in cc) | inr p ↦ none g p ]

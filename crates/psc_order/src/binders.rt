@@ -1,10 +1,9 @@
 //! Binders without chains.
 
-use crate::build::{Chain, in_order, tree_of};
-use crate::size::{Size, levels};
-use crate::state::Bracketing;
+use crate::state::{Bracketing, FUEL, Reading, Space, in_order};
 use crate::types::x_type;
 use psc_ast::{BinderField, BinderStep, BinderTree, TypeTree};
+use psc_chain::{Size, levels};
 use psc_text::{NoMemory, Span};
 use sqlite_items::{Boxed, Items};
 
@@ -43,7 +42,7 @@ pub(crate) fn binder(
             arguments,
             span,
         } => {
-            let arguments = binders_behind(state, arguments, fuel, size)?;
+            let arguments = binder_arguments(state, arguments, fuel, size)?;
             Ok(BinderTree::Constructor {
                 name,
                 arguments,
@@ -51,9 +50,7 @@ pub(crate) fn binder(
             })
         }
         BinderTree::Named { names, inner, span } => {
-            let mut inside = Size::NONE;
-            let inner = boxed(state, inner, fuel, &mut inside)?;
-            *size = size.then(inside.under(levels(names.len())));
+            let inner = boxed(state, inner, fuel, size)?;
             Ok(BinderTree::Named { names, inner, span })
         }
         BinderTree::Paren { inner, span } => {
@@ -114,9 +111,9 @@ fn typed(
     })
 }
 
-/// Binders behind one another, each under as many levels more as there are up to it.
+/// The arguments of a constructor, each under as many levels more as there are up to it.
 #[cycle(binders)]
-pub(crate) fn binders_behind(
+fn binder_arguments(
     state: &mut Bracketing,
     binders: Items<BinderTree>,
     fuel: u32,
@@ -184,27 +181,26 @@ fn chain(
     fuel: u32,
     size: &mut Size,
 ) -> Result<BinderTree, NoMemory> {
-    let mut operands = Vec::new(state.alloc);
-    let mut sizes = Vec::new(state.alloc);
-    let mut mentions = Vec::new(state.alloc);
     let mut inside = Size::NONE;
-    operands.push(binder(state, first.into_inner(), fuel, &mut inside)?)?;
-    sizes.push(inside)?;
+    let first = binder(state, first.into_inner(), fuel, &mut inside)?;
+    let mut reading = Reading::start(state.alloc, first, inside)?;
     for BinderStep { op, operand } in in_order(state.alloc, rest)? {
         let mut inside = Size::NONE;
-        operands.push(binder(state, operand, fuel, &mut inside)?)?;
-        sizes.push(inside)?;
-        mentions.push(op)?;
+        let operand = binder(state, operand, fuel, &mut inside)?;
+        reading.add(op, operand, inside)?;
     }
-    tree_of(
-        state,
-        false,
-        Chain {
-            operands,
-            sizes,
-            mentions,
-            span,
-        },
-        size,
-    )
+    state.bracketed(Space::Values, reading, span, size)
+}
+
+/// Binders behind one another: of a lambda, a clause or an alternative.
+pub(crate) fn binder_list(
+    state: &mut Bracketing,
+    binders: Items<BinderTree>,
+    size: &mut Size,
+) -> Result<Items<BinderTree>, NoMemory> {
+    let mut done = Items::new(state.alloc);
+    for next in in_order(state.alloc, binders)? {
+        done.push(binder(state, next, FUEL, size)?)?;
+    }
+    Ok(done)
 }

@@ -1,12 +1,11 @@
 //! Right sides, alternatives, local bindings and statements without chains.
 
-use crate::binders::{binder, binders_behind};
-use crate::build::in_order;
+use crate::binders::{binder, binder_list};
 use crate::exprs::{boxed, expr};
-use crate::size::{Size, levels};
-use crate::state::Bracketing;
-use crate::types::{FUEL, sig};
-use psc_ast::{Alt, Bind, Branch, Clause, ExprTree, Guard, Locals, Rhs, Stmt, Test};
+use crate::state::{Bracketing, FUEL, in_order};
+use crate::types::sig;
+use psc_ast::{Alt, Bind, Branch, Clause, Guard, Locals, Rhs, Stmt, Test};
+use psc_chain::{Size, levels};
 use psc_text::NoMemory;
 use sqlite_items::Items;
 
@@ -21,7 +20,7 @@ pub(crate) fn alternatives(
     let mut all = Size::NONE;
     for Alt { binders, rhs, span } in in_order(state.alloc, list)? {
         let mut inside = Size::NONE;
-        let binders = binders_behind(state, binders, FUEL, &mut inside)?;
+        let binders = binder_list(state, binders, &mut inside)?;
         let rhs = right_side(state, rhs, fuel, &mut inside)?;
         done.push(Alt { binders, rhs, span })?;
         all = all.beside(inside);
@@ -127,6 +126,11 @@ pub(crate) fn bind_list(
     fuel: u32,
     size: &mut Size,
 ) -> Result<Items<Bind>, NoMemory> {
+    if fuel == 0 {
+        state.too_deep = true;
+        return Ok(binds);
+    }
+    let fuel = fuel - 1;
     let mut done = Items::new(state.alloc);
     let mut all = Size::NONE;
     for bind in in_order(state.alloc, binds)? {
@@ -174,7 +178,7 @@ pub(crate) fn clause(
         rhs,
         span,
     } = one;
-    let arguments = binders_behind(state, arguments, FUEL, size)?;
+    let arguments = binder_list(state, arguments, size)?;
     let rhs = right_side(state, rhs, fuel, size)?;
     Ok(Clause {
         name,
@@ -184,7 +188,7 @@ pub(crate) fn clause(
     })
 }
 
-/// The statements of a block, each under as many levels as there are statements before it.
+/// The statements of a block, each under as many levels more as there are up to it.
 #[cycle(exprs)]
 pub(crate) fn statements(
     state: &mut Bracketing,
@@ -196,9 +200,8 @@ pub(crate) fn statements(
     let mut all = Size::NONE;
     for next in in_order(state.alloc, list)? {
         let mut inside = Size::NONE;
-        let before = levels(done.len());
         done.push(statement(state, next, fuel, &mut inside)?)?;
-        all = all.beside(inside.under(before));
+        all = all.beside(inside.under(levels(done.len())));
     }
     *size = size.then(all.enclosed());
     Ok(done)
@@ -218,48 +221,20 @@ fn statement(
             span,
         } => {
             let binder = binder(state, bound, FUEL, size)?;
-            let value = statement_value(state, value, fuel, size)?;
+            let value = expr(state, value, fuel, size)?;
             Ok(Stmt::Binds {
                 binder,
                 value,
                 span,
             })
         }
-        Stmt::Let { binds, span } => Ok(Stmt::Let {
-            binds: bind_list(state, binds, fuel, size)?,
-            span,
-        }),
-        Stmt::Run { value } => Ok(Stmt::Run {
-            value: statement_value(state, value, fuel, size)?,
-        }),
-    }
-}
-
-/// The value of a statement. The call of a name that is not written is no level of its own.
-#[cycle(exprs)]
-fn statement_value(
-    state: &mut Bracketing,
-    value: ExprTree,
-    fuel: u32,
-    size: &mut Size,
-) -> Result<ExprTree, NoMemory> {
-    match value {
-        ExprTree::Call {
-            function,
-            arguments,
-            span,
-        } if arguments.len() == 1 => {
-            let function = boxed(state, function, fuel, size)?;
-            let mut done = Items::new(state.alloc);
-            for argument in in_order(state.alloc, arguments)? {
-                done.push(expr(state, argument, fuel, size)?)?;
-            }
-            Ok(ExprTree::Call {
-                function,
-                arguments: done,
-                span,
-            })
+        Stmt::Let { binds, span } => {
+            *size = size.then(Size::KEYWORD);
+            let binds = bind_list(state, binds, fuel, size)?;
+            Ok(Stmt::Let { binds, span })
         }
-        other => Ok(expr(state, other, fuel, size)?),
+        Stmt::Run { value } => Ok(Stmt::Run {
+            value: expr(state, value, fuel, size)?,
+        }),
     }
 }

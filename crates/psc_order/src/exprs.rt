@@ -1,12 +1,11 @@
 //! Expressions without chains.
 
-use crate::binders::binders_behind;
+use crate::binders::binder_list;
 use crate::binds::{alternatives, bind_list, statements};
-use crate::build::{Chain, in_order, tree_of};
-use crate::size::{Size, levels};
-use crate::state::Bracketing;
-use crate::types::{FUEL, x_type};
+use crate::state::{Bracketing, FUEL, Reading, Space, in_order};
+use crate::types::x_type;
 use psc_ast::{ChainStep, ExprTree, Field, TickStep, Update};
+use psc_chain::{Size, levels};
 use psc_text::{NoMemory, Span};
 use sqlite_items::{Boxed, Items};
 
@@ -49,7 +48,10 @@ pub(crate) fn expr(
         | ExprTree::Constructor { .. }
         | ExprTree::Hole { .. } => Ok(tree),
         ExprTree::Operator { name, span } => {
-            let name = state.target(&name, false)?;
+            if name.span != span {
+                *size = size.then(Size::NONE.enclosed());
+            }
+            let name = state.target(&name, Space::Values)?;
             Ok(ExprTree::Operator { name, span })
         }
     }
@@ -67,11 +69,12 @@ pub(crate) fn boxed(
     Ok(Boxed::new(alloc, tree)?)
 }
 
-/// Expressions behind one another, each under as many levels more as there are up to it.
+/// The arguments of a call, each under as many levels more as there are up to it, where the call is a written one.
 #[cycle(exprs)]
-fn behind(
+fn arguments_of(
     state: &mut Bracketing,
     list: Items<ExprTree>,
+    written: bool,
     fuel: u32,
     size: &mut Size,
 ) -> Result<Items<ExprTree>, NoMemory> {
@@ -80,9 +83,16 @@ fn behind(
         let mut inside = Size::NONE;
         let next = expr(state, next, fuel, &mut inside)?;
         done.push(next)?;
-        *size = size.then(inside.under(levels(done.len())));
+        *size = size.then(inside.under(if written { levels(done.len()) } else { 0 }));
     }
     Ok(done)
+}
+
+/// Whether a place ends before another. So a call's function does, but for one that a statement calls unwritten: that has the
+/// place of the whole form.
+fn ends_before(one: Span, other: Span) -> bool {
+    one.end_line < other.end_line
+        || (one.end_line == other.end_line && one.end_column < other.end_column)
 }
 
 /// Expressions in brackets with commas between them.
@@ -114,32 +124,19 @@ fn chain(
     fuel: u32,
     size: &mut Size,
 ) -> Result<ExprTree, NoMemory> {
-    let mut operands = Vec::new(state.alloc);
-    let mut sizes = Vec::new(state.alloc);
-    let mut mentions = Vec::new(state.alloc);
     let mut inside = Size::NONE;
-    operands.push(expr(state, first.into_inner(), fuel, &mut inside)?)?;
-    sizes.push(inside)?;
+    let first = expr(state, first.into_inner(), fuel, &mut inside)?;
+    let mut reading = Reading::start(state.alloc, first, inside)?;
     for ChainStep { op, operand } in in_order(state.alloc, rest)? {
         let mut inside = Size::NONE;
-        operands.push(expr(state, operand, fuel, &mut inside)?)?;
-        sizes.push(inside)?;
-        mentions.push(op)?;
+        let operand = expr(state, operand, fuel, &mut inside)?;
+        reading.add(op, operand, inside)?;
     }
-    tree_of(
-        state,
-        false,
-        Chain {
-            operands,
-            sizes,
-            mentions,
-            span,
-        },
-        size,
-    )
+    state.bracketed(Space::Values, reading, span, size)
 }
 
-/// Names in backticks, each of which is an operator node.
+/// Names in backticks, each of which is an operator node. They associate to the left, so an operand lies behind those before it
+/// and under those behind it.
 #[cycle(exprs)]
 fn ticks(
     state: &mut Bracketing,
@@ -149,13 +146,16 @@ fn ticks(
     fuel: u32,
     size: &mut Size,
 ) -> Result<ExprTree, NoMemory> {
-    let first = boxed(state, first, fuel, size)?;
+    let nodes = levels(rest.len());
+    let mut inside = Size::NONE;
+    let first = boxed(state, first, fuel, &mut inside)?;
+    *size = size.then(inside.under(nodes));
     let mut done = Items::new(state.alloc);
     for TickStep { name, operand } in in_order(state.alloc, rest)? {
         let mut inside = Size::NONE;
         let operand = expr(state, operand, fuel, &mut inside)?;
+        *size = size.then(inside.under(nodes));
         done.push(TickStep { name, operand })?;
-        *size = size.then(inside.under(levels(done.len())));
     }
     Ok(ExprTree::Ticks {
         first,
@@ -206,7 +206,9 @@ fn applied(
             operand,
             span,
         } => {
-            let operand = boxed(state, operand, fuel, size)?;
+            let mut inside = Size::NONE;
+            let operand = boxed(state, operand, fuel, &mut inside)?;
+            *size = size.then(inside.under(1));
             Ok(ExprTree::Negate {
                 minus,
                 operand,
@@ -218,8 +220,9 @@ fn applied(
             arguments,
             span,
         } => {
+            let written = ends_before(function.get().span(), span);
             let function = boxed(state, function, fuel, size)?;
-            let arguments = behind(state, arguments, fuel, size)?;
+            let arguments = arguments_of(state, arguments, written, fuel, size)?;
             Ok(ExprTree::Call {
                 function,
                 arguments,
@@ -237,14 +240,14 @@ fn form(
     fuel: u32,
     size: &mut Size,
 ) -> Result<ExprTree, NoMemory> {
-    *size = size.then(Size::NONE.reaching());
+    *size = size.then(Size::KEYWORD);
     match tree {
         ExprTree::Lambda {
             binders,
             body,
             span,
         } => {
-            let binders = binders_behind(state, binders, FUEL, size)?;
+            let binders = binder_list(state, binders, size)?;
             let body = boxed(state, body, fuel, size)?;
             Ok(ExprTree::Lambda {
                 binders,
@@ -285,7 +288,7 @@ fn block(
             alternatives: list,
             span,
         } => {
-            *size = size.then(Size::NONE.reaching());
+            *size = size.then(Size::KEYWORD);
             let mut done = Items::new(state.alloc);
             for next in in_order(state.alloc, scrutinees)? {
                 done.push(expr(state, next, fuel, size)?)?;
@@ -298,7 +301,7 @@ fn block(
             })
         }
         ExprTree::Let { binds, body, span } => {
-            *size = size.then(Size::NONE.reaching());
+            *size = size.then(Size::KEYWORD);
             let binds = bind_list(state, binds, fuel, size)?;
             let body = boxed(state, body, fuel, size)?;
             Ok(ExprTree::Let { binds, body, span })

@@ -1,13 +1,12 @@
 //! A module without chains, one declaration after the other.
 
 use crate::binds::clause;
-use crate::build::in_order;
-use crate::size::Size;
-use crate::state::{Bracketing, Refusal};
-use crate::types::{FUEL, constraint_list, kind_size, sig, type_list, var_size, x_type};
+use crate::state::{Bracketing, FUEL, Refusal, in_order};
+use crate::types::{constraint_list, kind_size, sig, type_list, vars_size, x_type};
 use psc_ast::{
-    ClassDecl, Ctor, DataDecl, Decl, Fixities, InstanceDecl, Module, SynonymDecl, TypeVar,
+    ClassDecl, Ctor, DataDecl, Decl, Fixities, InstanceDecl, Module, SynonymDecl,
 };
+use psc_chain::Size;
 use psc_error::{Code, PsError};
 use psc_items::SharedItems;
 use psc_text::{ModuleName, NoMemory, Span};
@@ -18,8 +17,8 @@ use std::alloc::Global;
 ///
 /// Wrong at the first declaration that has a chain without a right tree, by its first such chain: NonAssociativeError at the
 /// second of two operators that both associate to no side, with it as part; MixedAssociativityError at the second of two
-/// others, with both as parts. Wrong with TooDeep at the first declaration whose tokens lie under more than 1,000 levels, if
-/// that comes earlier.
+/// others, with both as parts. Wrong with TooDeep at the first declaration that has a right tree for each chain and a token
+/// under more than 1,000 levels, if that comes earlier.
 pub fn rebracket(
     alloc: Global,
     module: Module,
@@ -112,12 +111,6 @@ fn decl_of(state: &mut Bracketing, decl: Decl, size: &mut Size) -> Result<Decl, 
     }
 }
 
-fn vars_size(vars: &[TypeVar], size: &mut Size) {
-    for var in vars {
-        *size = size.then(var_size(var));
-    }
-}
-
 fn data_of(state: &mut Bracketing, data: DataDecl, size: &mut Size) -> Result<DataDecl, NoMemory> {
     let DataDecl {
         name,
@@ -128,9 +121,7 @@ fn data_of(state: &mut Bracketing, data: DataDecl, size: &mut Size) -> Result<Da
     vars_size(vars.as_slice(), size);
     let mut done = Items::new(state.alloc);
     for Ctor { name, fields, span } in in_order(state.alloc, ctors)? {
-        let mut inside = Size::NONE;
-        let fields = type_list(state, fields, &mut inside)?;
-        *size = size.then(inside);
+        let fields = type_list(state, fields, size)?;
         done.push(Ctor { name, fields, span })?;
     }
     Ok(DataDecl {

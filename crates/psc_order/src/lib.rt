@@ -7,11 +7,11 @@
 
 mod binders;
 mod binds;
-mod build;
 mod exprs;
 mod items;
-mod size;
 mod state;
 mod types;
 
 pub use items::rebracket;
+pub use psc_cycles::{cycle_error, declaration_mentions};
+pub use psc_groups::{BindingGroup, are_declared, binding_groups};

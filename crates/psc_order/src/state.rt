@@ -1,11 +1,17 @@
 //! What the bracketing of a module knows and finds.
 
+ghost use Rattle.std.specs.Prelude.{◌≡◌, length, IfOk};
+
 use psc_ast::{Fixities, Mention, Side};
 use psc_brackets::{Clash, Operator};
+use psc_chain::{Bracketed, Chain, Joins, Operand, Size, tree_of};
 use psc_error::Code;
 use psc_text::{NoMemory, Qualified, Span, Text};
 use std::alloc::Global;
-use std::collections::BTreeMap;
+use std::collections::{BTreeMap, VecDeque};
+
+/// How many forms may stand inside one another. The limit on nesting in a source is far below it.
+pub(crate) const FUEL: u32 = 10_000;
 
 /// An operator in scope.
 #[derive(Debug, Drop)]
@@ -22,6 +28,13 @@ pub(crate) struct Refusal {
     pub parts: Vec<Text>,
 }
 
+/// Whether an operator is one of types.
+#[derive(Clone, Copy, Debug, PartialEq, Eq)]
+pub(crate) enum Space {
+    Values,
+    Types,
+}
+
 /// The operators of values and of types, and what was found so far.
 #[derive(Debug, Drop)]
 pub(crate) struct Bracketing {
@@ -34,24 +47,30 @@ pub(crate) struct Bracketing {
     pub too_deep: bool,
 }
 
+/// The operands and operators of a chain, as they are read.
+#[derive(Drop)]
+pub(crate) struct Reading<T: Drop> {
+    pub operands: VecDeque<Operand<T>>,
+    pub mentions: Vec<Mention>,
+}
+
 impl Bracketing {
     pub(crate) fn start(alloc: Global, fixities: &Fixities) -> Result<Bracketing, NoMemory> {
         let mut values = BTreeMap::new(alloc);
         let mut types = BTreeMap::new(alloc);
         for row in fixities.rows.as_slice() {
-            let known = Known {
-                operator: Operator {
-                    side: row.side,
-                    power: row.power,
-                },
-                target: row.target.clone()?,
+            let operator = Operator {
+                side: row.side,
+                power: row.power,
             };
+            let target = row.target.clone()?;
+            let known = Known { operator, target };
             let key = row.op.clone()?;
-            if row.of_types {
-                let _ = types.insert(key, known)?;
+            let _before = if row.of_types {
+                types.insert(key, known)?
             } else {
-                let _ = values.insert(key, known)?;
-            }
+                values.insert(key, known)?
+            };
         }
         Ok(Bracketing {
             alloc,
@@ -63,17 +82,24 @@ impl Bracketing {
     }
 
     /// The operator that a mention names.
-    pub(crate) fn known(&self, mention: &Mention, of_types: bool) -> Option<&Known> {
-        if of_types {
-            self.types.get(&mention.name)
-        } else {
-            self.values.get(&mention.name)
+    fn known(&self, mention: &Mention, space: Space) -> Option<&Known> {
+        match space {
+            Space::Values => self.values.get(&mention.name),
+            Space::Types => self.types.get(&mention.name),
+        }
+    }
+
+    /// The power and side of an operator.
+    fn operator(&self, mention: &Mention, space: Space) -> Operator {
+        match self.known(mention, space) {
+            Some(known) => known.operator,
+            None => TIGHTEST,
         }
     }
 
     /// The mention of an operator's target in the place of the operator. An operator that is not known stands for itself.
-    pub(crate) fn target(&self, mention: &Mention, of_types: bool) -> Result<Mention, NoMemory> {
-        let name = match self.known(mention, of_types) {
+    pub(crate) fn target(&self, mention: &Mention, space: Space) -> Result<Mention, NoMemory> {
+        let name = match self.known(mention, space) {
             Some(known) => known.target.clone()?,
             None => mention.name.clone()?,
         };
@@ -84,26 +110,32 @@ impl Bracketing {
     }
 
     /// The powers and sides of the operators of a chain.
-    pub(crate) fn operators(
-        &self,
-        mentions: &[Mention],
-        of_types: bool,
-    ) -> Result<Vec<Operator>, NoMemory> {
+    fn operators(&self, mentions: &[Mention], space: Space) -> Result<Vec<Operator>, NoMemory>
+        ensures { IfOk result (λ operators. length operators.items ≡ length mentions.now) }
+    {
         let mut operators = Vec::new(self.alloc);
         for mention in mentions {
-            operators.push(match self.known(mention, of_types) {
-                Some(known) => known.operator,
-                None => TIGHTEST,
-            })?;
+            operators.push(self.operator(mention, space))?;
         }
         Ok(operators)
     }
 
+    /// What the operators of a chain stand for.
+    fn targets(&self, mentions: &[Mention], space: Space) -> Result<Vec<Mention>, NoMemory>
+        ensures { IfOk result (λ targets. length targets.items ≡ length mentions.now) }
+    {
+        let mut targets = Vec::new(self.alloc);
+        for mention in mentions {
+            targets.push(self.target(mention, space)?)?;
+        }
+        Ok(targets)
+    }
+
     /// Keeps what is wrong with a chain, if it is the first of its item.
-    pub(crate) fn refuse(
+    fn refuse(
         &mut self,
         mentions: &[Mention],
-        operators: &[Operator],
+        space: Space,
         clash: Clash,
     ) -> Result<(), NoMemory> {
         if self.refusal.is_some() {
@@ -114,7 +146,7 @@ impl Bracketing {
             return Ok(());
         };
         let mut parts = Vec::new(self.alloc);
-        let code = if is_infix(operators, clash.earlier) && is_infix(operators, clash.later) {
+        let code = if self.is_infix(earlier, space) && self.is_infix(later, space) {
             Code::NonAssociativeError
         } else {
             parts.push(earlier.name.name.clone()?)?;
@@ -128,6 +160,48 @@ impl Bracketing {
         });
         Ok(())
     }
+
+    /// Whether an operator takes none of its power on either side.
+    fn is_infix(&self, mention: &Mention, space: Space) -> bool {
+        match self.operator(mention, space).side {
+            Side::Neither => true,
+            Side::Left | Side::Right => false,
+        }
+    }
+
+    /// The tree of a chain. A chain that has none is noted, and so is one whose tree would be too deep.
+    pub(crate) fn bracketed<T: Joins>(
+        &mut self,
+        space: Space,
+        reading: Reading<T>,
+        span: Span,
+        size: &mut Size,
+    ) -> Result<T, NoMemory>
+        requires { length reading.operands.items ≡ length reading.mentions.items + 1 }
+    {
+        let Reading { operands, mentions } = reading;
+        let operators = self.operators(&mentions, space)?;
+        let targets = self.targets(&mentions, space)?;
+        let chain = Chain {
+            operands,
+            operators,
+            targets,
+        };
+        match tree_of(self.alloc, chain)? {
+            Bracketed::Tree { tree, size: inside } => {
+                *size = size.then(inside);
+                Ok(tree)
+            }
+            Bracketed::Clash(clash) => {
+                self.refuse(&mentions, space, clash)?;
+                Ok(T::nothing(span))
+            }
+            Bracketed::TooDeep => {
+                self.too_deep = true;
+                Ok(T::nothing(span))
+            }
+        }
+    }
 }
 
 /// Where no fixity is known, an operator binds as tightly as one can, to the left.
@@ -136,10 +210,42 @@ const TIGHTEST: Operator = Operator {
     power: 9,
 };
 
-/// Whether an operator takes none of its power on either side.
-fn is_infix(operators: &[Operator], at: usize) -> bool {
-    match operators.get(at) {
-        Some(operator) => matches!(operator.side, Side::Neither),
-        None => false,
+impl<T: Drop> Reading<T> {
+    /// A chain of one operand.
+    pub(crate) fn start(alloc: Global, tree: T, size: Size) -> Result<Reading<T>, NoMemory>
+        ensures { IfOk result (λ reading. length reading.operands.items ≡ length reading.mentions.items + 1) }
+    {
+        let mut operands = VecDeque::new(alloc);
+        operands.push_back(Operand { tree, size })?;
+        Ok(Reading {
+            operands,
+            mentions: Vec::new(alloc),
+        })
     }
+
+    /// Reads an operator and the operand behind it.
+    pub(crate) fn add(&mut self, mention: Mention, tree: T, size: Size) -> Result<(), NoMemory>
+        requires { length self.old.operands.items ≡ length self.old.mentions.items + 1 }
+        ensures { OnOk result (length self.new.operands.items ≡ length self.new.mentions.items + 1) }
+    {
+        self.mentions.push(mention)?;
+        self.operands.push_back(Operand { tree, size })?;
+        Ok(())
+    }
+}
+
+/// The elements of a list, in their order.
+pub(crate) fn in_order<T: Drop>(
+    alloc: Global,
+    items: sqlite_items::Items<T>,
+) -> Result<Vec<T>, NoMemory> {
+    let mut items = items;
+    let mut list = Vec::new(alloc);
+    for _ in 0..items.len() {
+        if let Some(item) = items.pop() {
+            list.push(item)?;
+        }
+    }
+    list.reverse();
+    Ok(list)
 }

@@ -1,14 +1,10 @@
 //! Types without chains.
 
-use crate::build::{Chain, in_order, tree_of};
-use crate::size::{Size, levels};
-use crate::state::Bracketing;
+use crate::state::{Bracketing, FUEL, Reading, Space, in_order};
 use psc_ast::{Constr, KindTree, RowField, RowTree, Sig, TypePrefix, TypeStep, TypeTree, TypeVar};
+use psc_chain::{Size, levels};
 use psc_text::{NoMemory, Span};
 use sqlite_items::{Boxed, Items};
-
-/// How many forms may stand inside one another. The limit on nesting in a source is far below it.
-pub(crate) const FUEL: u32 = 10_000;
 
 /// A type with its chains as trees.
 #[cycle(types)]
@@ -26,9 +22,9 @@ pub(crate) fn x_type(
     match tree {
         TypeTree::Prefixed {
             prefixes,
-            result,
+            result: body,
             span,
-        } => prefixed(state, prefixes, result, span, fuel, size),
+        } => prefixed(state, prefixes, body, span, fuel, size),
         TypeTree::Chain { first, rest, span } => chain(state, first, rest, span, fuel, size),
         TypeTree::Operation {
             op,
@@ -72,10 +68,11 @@ pub(crate) fn x_type(
             let row = row(state, fields, fuel, size)?;
             Ok(TypeTree::XRecord { row, span })
         }
-        TypeTree::Variable { .. }
-        | TypeTree::Constructor { .. }
-        | TypeTree::Function { .. }
-        | TypeTree::Str { .. } => Ok(tree),
+        TypeTree::Function { .. } => {
+            *size = size.then(Size::NONE.enclosed());
+            Ok(tree)
+        }
+        TypeTree::Variable { .. } | TypeTree::Constructor { .. } | TypeTree::Str { .. } => Ok(tree),
     }
 }
 
@@ -118,98 +115,86 @@ fn chain(
     fuel: u32,
     size: &mut Size,
 ) -> Result<TypeTree, NoMemory> {
-    let mut operands = Vec::new(state.alloc);
-    let mut sizes = Vec::new(state.alloc);
-    let mut mentions = Vec::new(state.alloc);
     let mut inside = Size::NONE;
-    operands.push(x_type(state, first.into_inner(), fuel, &mut inside)?)?;
-    sizes.push(inside)?;
+    let first = x_type(state, first.into_inner(), fuel, &mut inside)?;
+    let mut reading = Reading::start(state.alloc, first, inside)?;
     for TypeStep { op, operand } in in_order(state.alloc, rest)? {
         let mut inside = Size::NONE;
-        operands.push(x_type(state, operand, fuel, &mut inside)?)?;
-        sizes.push(inside)?;
-        mentions.push(op)?;
+        let operand = x_type(state, operand, fuel, &mut inside)?;
+        reading.add(op, operand, inside)?;
     }
-    tree_of(
-        state,
-        true,
-        Chain {
-            operands,
-            sizes,
-            mentions,
-            span,
-        },
-        size,
-    )
+    state.bracketed(Space::Types, reading, span, size)
 }
 
+/// Prefixes and the type behind them. Each arrow is a level of what it takes and of all behind it.
 #[cycle(types)]
 fn prefixed(
     state: &mut Bracketing,
     prefixes: Items<TypePrefix>,
-    result: Boxed<TypeTree>,
+    body: Boxed<TypeTree>,
     span: Span,
     fuel: u32,
     size: &mut Size,
 ) -> Result<TypeTree, NoMemory> {
     let mut done = Items::new(state.alloc);
-    let mut depth: u32 = 0;
+    let mut arrows: u32 = 0;
     for next in in_order(state.alloc, prefixes)? {
+        if is_arrow(&next) {
+            arrows = arrows.saturating_add(1);
+        }
         let mut inside = Size::NONE;
-        let (next, more) = prefix(state, next, fuel, &mut inside)?;
-        depth = depth.saturating_add(more);
-        *size = size.then(inside.under(depth));
+        let next = prefix(state, next, fuel, &mut inside)?;
+        *size = size.then(inside.under(arrows));
         done.push(next)?;
     }
     let mut inside = Size::NONE;
-    let result = boxed(state, result, fuel, &mut inside)?;
-    *size = size.then(inside.under(depth));
+    let body = boxed(state, body, fuel, &mut inside)?;
+    *size = size.then(inside.under(arrows));
     Ok(TypeTree::Prefixed {
         prefixes: done,
-        result,
+        result: body,
         span,
     })
 }
 
-/// A prefix with the levels that it puts on what stands behind it.
+fn is_arrow(prefix: &TypePrefix) -> bool {
+    match prefix {
+        TypePrefix::Argument { .. } => true,
+        TypePrefix::Forall { .. } | TypePrefix::Given { .. } => false,
+    }
+}
+
 #[cycle(types)]
 fn prefix(
     state: &mut Bracketing,
     next: TypePrefix,
     fuel: u32,
     size: &mut Size,
-) -> Result<(TypePrefix, u32), NoMemory> {
+) -> Result<TypePrefix, NoMemory> {
     match next {
         TypePrefix::Forall { vars, span } => {
-            let more = levels(vars.len());
-            for var in vars.as_slice() {
-                *size = size.then(var_size(var));
-            }
-            *size = size.reaching();
-            Ok((TypePrefix::Forall { vars, span }, more))
+            *size = size.then(Size::KEYWORD);
+            vars_size(vars.as_slice(), size);
+            Ok(TypePrefix::Forall { vars, span })
         }
         TypePrefix::Given { constraints, span } => {
-            let more = levels(constraints.len());
             let constraints = constraint_list(state, constraints, fuel, size)?;
-            Ok((TypePrefix::Given { constraints, span }, more))
+            Ok(TypePrefix::Given { constraints, span })
         }
         TypePrefix::Argument {
             x_type: argument,
             span,
         } => {
             let argument = x_type(state, argument, fuel, size)?;
-            Ok((
-                TypePrefix::Argument {
-                    x_type: argument,
-                    span,
-                },
-                1,
-            ))
+            Ok(TypePrefix::Argument {
+                x_type: argument,
+                span,
+            })
         }
     }
 }
 
-/// Constraints with their chains as trees.
+/// Constraints with their chains as trees. Several stand in parentheses.
 #[cycle(types)]
 pub(crate) fn constraint_list(
     state: &mut Bracketing,
@@ -217,6 +202,7 @@ pub(crate) fn constraint_list(
     fuel: u32,
     size: &mut Size,
 ) -> Result<Items<Constr>, NoMemory> {
+    let several = constraints.len() > 1;
     let mut done = Items::new(state.alloc);
     let mut all = Size::NONE;
     for Constr {
@@ -233,7 +219,7 @@ pub(crate) fn constraint_list(
             span,
         })?;
     }
-    *size = size.then(all.enclosed());
+    *size = size.then(if several { all.enclosed() } else { all });
     Ok(done)
 }
 
@@ -293,14 +279,21 @@ pub(crate) fn type_list(
 }
 
 /// A type variable with its kind, which stands in parentheses.
-pub(crate) fn var_size(var: &TypeVar) -> Size {
+fn var_size(var: &TypeVar) -> Size {
     match &var.kind {
         Some(kind) => kind_size(kind).enclosed(),
         None => Size::NONE,
     }
 }
 
-/// The size of a kind: a level for each arrow and for each `Row`.
+/// The variables of a head or of a `forall`.
+pub(crate) fn vars_size(vars: &[TypeVar], size: &mut Size) {
+    for var in vars {
+        *size = size.then(var_size(var));
+    }
+}
+
+/// The size of a kind: a level for each arrow and for each `Row`, which takes the kind behind it.
 pub(crate) fn kind_size(kind: &KindTree) -> Size {
     match kind {
         KindTree::XType { .. } | KindTree::Constraint { .. } | KindTree::Symbol { .. } =>

@@ -2,8 +2,8 @@ use Rattle.std.proofs.Common.{arith, rules, refl}
 use Rattle.psc_groups.proofs.Placing.{target_within, place_of, wait_queue, wait_stand, ready_queue, ready_stand}
 use Rattle.psc_groups.proofs.order.Queue.look_at.Goals as goal
 
-pub target_at-requires-clause-place_within : goal.target_at-requires-clause-place_within
-target_at-requires-clause-place_within c = place_of _ _ c.requires.can _ c.requires.queue _ _ c.in-Some.ensures
+pub target_at-target-requires-clause-place_within : goal.target_at-target-requires-clause-place_within
+target_at-target-requires-clause-place_within c = place_of _ _ c.requires.can _ c.requires.queue _ _ c.in-Some.ensures
 
 pub add_to-requires : goal.add_to-requires
 add_to-requires c =

@@ -1,0 +1,206 @@
+//! Declarations: what they mention, and which of them need themselves.
+
+use crate::binds::clause;
+use crate::scope::{Found, Links, Walk, bare_cycles, is_before, reach_themselves};
+use crate::tables::Tables;
+use crate::types::{all_mentions, constraint_mentions, type_mentions};
+use psc_ast::{ClassDecl, DataDecl, Decl, Module};
+use psc_error::{Code, PsError};
+use psc_groups::BindingGroup;
+use psc_items::SharedItems;
+use psc_text::{NoMemory, Span, Text};
+use std::alloc::Global;
+
+/// For each declaration those that it mentions, by their places in the module.
+///
+/// A type, a synonym or a class mentions types, synonyms and classes; a value mentions values. The first clause of a value
+/// stands for all its clauses. Other declarations mention none.
+pub fn declaration_mentions(alloc: Global, module: &Module) -> Result<Vec<Vec<u32>>, NoMemory> {
+    let tables = Tables::of_module(alloc, module)?;
+    let mut walk = Walk::start(alloc, tables);
+    let mut mentions = walk_values(&mut walk, module)?.mentions;
+    for (place, decl) in module.decls.as_slice().iter().enumerate() {
+        if let Some(list) = mentions.get_mut(place) {
+            decl_types(&walk.tables, decl, list)?;
+        }
+    }
+    Ok(mentions)
+}
+
+/// The first declaration of a module that needs itself, for the groups of its `declaration_mentions`.
+///
+/// CycleInTypeSynonym at a synonym that reaches itself through synonyms; CycleInDeclaration at a class that reaches itself
+/// through superclasses, and at a value, top-level or local, that mentions one of its own group outside every lambda.
+pub fn cycle_error(
+    alloc: Global,
+    groups: &[BindingGroup],
+    module: &Module,
+) -> Result<Option<PsError>, NoMemory> {
+    let tables = Tables::of_module(alloc, module)?;
+    let synonyms = reach_themselves(alloc, &synonym_mentions(alloc, &tables, module)?)?;
+    let classes = reach_themselves(alloc, &superclass_mentions(alloc, &tables, module)?)?;
+    let mut walk = Walk::start(alloc, tables);
+    let links = walk_values(&mut walk, module)?;
+    let values = bare_cycles(alloc, groups, &links.bare)?;
+    let mut first = First { found: None };
+    for (place, decl) in module.decls.as_slice().iter().enumerate() {
+        match decl {
+            Decl::Synonym(synonym) if is_set(&synonyms, place) => first.offer(
+                Code::CycleInTypeSynonym,
+                &synonym.name.name,
+                synonym.span,
+            )?,
+            Decl::Class(class) if is_set(&classes, place) => first.offer(
+                Code::CycleInDeclaration,
+                &class.name.name,
+                class.span,
+            )?,
+            Decl::Clause(one) if is_set(&values, place) => first.offer(
+                Code::CycleInDeclaration,
+                &one.name.name.0,
+                one.span,
+            )?,
+            _ => {}
+        }
+    }
+    if let Some(local) = &walk.found {
+        first.offer(Code::CycleInDeclaration, &local.name, local.span)?;
+    }
+    first.into_error(alloc, module)
+}
+
+/// The first in the source of the declarations that need themselves.
+#[derive(Drop)]
+struct First {
+    found: Option<(Code, Found)>,
+}
+
+impl First {
+    fn offer(&mut self, code: Code, name: &Text, span: Span) -> Result<(), NoMemory> {
+        let is_first = match &self.found {
+            Some((_, found)) => is_before(span, found.span),
+            None => true,
+        };
+        if is_first {
+            let name = name.clone()?;
+            self.found = Some((code, Found { name, span }));
+        }
+        Ok(())
+    }
+
+    fn into_error(self, alloc: Global, module: &Module) -> Result<Option<PsError>, NoMemory> {
+        let First { found } = self;
+        let Some((code, Found { name, span })) = found else {
+            return Ok(None);
+        };
+        let mut parts = Vec::new(alloc);
+        parts.push(name)?;
+        Ok(Some(PsError {
+            code,
+            module: Some(module.name.name.clone()?),
+            span,
+            parts: SharedItems::from_vec(alloc, parts)?,
+        }))
+    }
+}
+
+fn is_set(flags: &[bool], place: usize) -> bool {
+    flags.get(place).copied().unwrap_or(false)
+}
+
+/// What the values of a module mention of one another.
+fn walk_values(walk: &mut Walk, module: &Module) -> Result<Links, NoMemory> {
+    let decls = module.decls.as_slice();
+    walk.open_module(decls.len())?;
+    for decl in decls {
+        match decl {
+            Decl::Clause(one) => {
+                walk.begin(walk.tables.named(&one.name.name.0));
+                clause(walk, one)?;
+            }
+            Decl::Instance(instance) => {
+                walk.begin(None);
+                for member in instance.members.as_slice() {
+                    clause(walk, member)?;
+                }
+            }
+            _ => {}
+        }
+    }
+    Ok(walk.module_links())
+}
+
+/// Adds what a declaration mentions of types, synonyms and classes.
+fn decl_types(tables: &Tables, decl: &Decl, found: &mut Vec<u32>) -> Result<(), NoMemory> {
+    match decl {
+        Decl::XData(data) | Decl::Newtype(data) => data_types(tables, data, found),
+        Decl::Synonym(synonym) => type_mentions(tables, &synonym.body, found),
+        Decl::Class(class) => class_types(tables, class, found),
+        _ => Ok(()),
+    }
+}
+
+fn data_types(tables: &Tables, data: &DataDecl, found: &mut Vec<u32>) -> Result<(), NoMemory> {
+    for ctor in data.ctors.as_slice() {
+        all_mentions(tables, ctor.fields.as_slice(), found)?;
+    }
+    Ok(())
+}
+
+fn class_types(tables: &Tables, class: &ClassDecl, found: &mut Vec<u32>) -> Result<(), NoMemory> {
+    constraint_mentions(tables, class.supers.as_slice(), found)?;
+    for member in class.members.as_slice() {
+        type_mentions(tables, &member.x_type, found)?;
+    }
+    Ok(())
+}
+
+/// For each declaration the synonyms that it mentions, if it is one.
+fn synonym_mentions(
+    alloc: Global,
+    tables: &Tables,
+    module: &Module,
+) -> Result<Vec<Vec<u32>>, NoMemory> {
+    let decls = module.decls.as_slice();
+    let mut all = Vec::new(alloc);
+    for decl in decls {
+        let mut found = Vec::new(alloc);
+        if let Decl::Synonym(synonym) = decl {
+            type_mentions(tables, &synonym.body, &mut found)?;
+        }
+        all.push(synonyms_of(alloc, decls, &found)?)?;
+    }
+    Ok(all)
+}
+
+/// The synonyms among declarations.
+fn synonyms_of(alloc: Global, decls: &[Decl], numbers: &[u32]) -> Result<Vec<u32>, NoMemory> {
+    let mut synonyms = Vec::new(alloc);
+    for number in numbers {
+        if let Some(Decl::Synonym(_)) = decls.get(*number as usize) {
+            synonyms.push(*number)?;
+        }
+    }
+    Ok(synonyms)
+}
+
+/// For each declaration its superclasses, if it is a class.
+fn superclass_mentions(
+    alloc: Global,
+    tables: &Tables,
+    module: &Module,
+) -> Result<Vec<Vec<u32>>, NoMemory> {
+    let mut all = Vec::new(alloc);
+    for decl in module.decls.as_slice() {
+        let mut found = Vec::new(alloc);
+        if let Decl::Class(class) = decl {
+            for constraint in class.supers.as_slice() {
+                if let Some(number) = tables.type_of(&constraint.class) {
+                    found.push(number)?;
+                }
+            }
+        }
+        all.push(found)?;
+    }
+    Ok(all)
+}
