@@ -1,14 +1,14 @@
 -- No alias prints as a name.
-use Rattle.std.proofs.Common.{◌≡◌, ◌==◌, ◌+◌, ℕ, suc, Bool, true, false, List, [], ◌∷◌, ◌++◌, ◌≢◌, refl, ap, sym, ◌∙◌, arith, append_assoc, append-nil, chars, length, map, ◌⊎◌, inl, inr}
+use Rattle.std.proofs.Common.{◌≡◌, ◌==◌, ◌+◌, ℕ, Bool, true, false, List, [], ◌∷◌, ◌++◌, ◌≢◌, refl, ap, sym, ◌∙◌, arith, append_assoc, append-nil, chars, length, map, inl, inr}
 use Rattle.std.specs.Fmt.{digits}
 use Rattle.std.specs.List.{slice_split}
-use Rattle.std.proofs.lemmas.Bool.{false≢true, true≢false}
+use Rattle.std.proofs.lemmas.Bool.{false≢true}
 use Rattle.std.proofs.lemmas.List.Splits.{length-slice_split}
 use Rattle.psc_js_names.specs.Names.{letter, letters, mark, printed, behind, local, parts, alias}
 use Rattle.psc_js_names.specs.Reserved.{is_reserved}
 use Rattle.psc_js_names.specs.Kinds.{IsSourceName, IsPart, AreParts, IsMadeName, IsInstanceName, IsName, IsLocalName, HasTopNames, begins_hex, is_small}
 use Rattle.psc_js_names.proofs.Apart.{stays, is_coded, heads, tails, nil_no_cons, written, letter_apart, letter_not_nil, letter_no_digit, letters_no_digit, behind_mark, two_marks, no_two_marks, until_mark, part_two_marks, part_not_nil, part_assoc, begins_no_digit}
-use Rattle.psc_js_names.proofs.Made.{is_word, word_no_mark, letters_word, great_no_hex, small_word, printed_marked, plain_end, made_local, local_of}
+use Rattle.psc_js_names.proofs.Made.{is_word, word_no_mark, letters_word, great_no_hex, small_word, printed_marked, made_local, local_of}
 
 -- a part goes on to a mark with no digit behind it, and a name of the source does not
 until_end : (x y r : List ℕ) → IsSourceName x → IsSourceName y → begins_hex r ≡ false → letters x ++ 36 ∷ r ≡ letters y → ⊥
@@ -69,7 +69,7 @@ no_word false (c ∷ cs) d ds r a w h = elim (written c) as (λ _. ⊥) [
       let k : ((36 ∷ (digits 16 false c ++ 36 ∷ [])) ++ letters cs) ++ 36 ∷ r ≡ 36 ∷ (d ∷ ds) = ap (λ (l : List ℕ). (l ++ letters cs) ++ 36 ∷ r) (sym e) ∙ h in
       let t : ((digits 16 false c ++ 36 ∷ []) ++ letters cs) ++ 36 ∷ r ≡ d ∷ ds = tails _ _ _ _ k in
       word_no_mark (digits 16 false c) (letters cs ++ 36 ∷ r) (d ∷ ds) w
-        (sym (append_assoc (digits 16 false c) (36 ∷ []) (letters cs ++ 36 ∷ r)) ∙ sym (append_assoc (digits 16 false c ++ 36 ∷ []) (letters cs) (36 ∷ r)) ∙ t)
+      (sym (append_assoc (digits 16 false c) (36 ∷ []) (letters cs ++ 36 ∷ r)) ∙ sym (append_assoc (digits 16 false c ++ 36 ∷ []) (letters cs) (36 ∷ r)) ∙ t)
 ]
 
 no_great : (m : Bool) (x : List ℕ) (d : ℕ) (ds r : List ℕ) → IsPart x → is_small d ≡ false → d ≢ 36 → (mark m ++ letters x) ++ 36 ∷ r ≡ 36 ∷ (letter d ++ letters ds) → ⊥

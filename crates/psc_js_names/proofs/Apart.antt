@@ -1,5 +1,5 @@
 -- Names that are printed alike are one name.
-use Rattle.std.proofs.Common.{◌≡◌, ◌==◌, ◌<◌, ◌^◌, ℕ, Bool, true, false, ◌||◌, if◌then◌else◌, List, [], ◌∷◌, ◌++◌, ◌≢◌, map, refl, ap, sym, ◌∙◌, subst, arith, ⊎_elim, append_assoc, append-nil, codes, chars, drop, get_or, ◌⊎◌, inl, inr, encode_utf8, encode_utf8_all, IsUtf8}
+use Rattle.std.proofs.Common.{◌≡◌, ◌<◌, ◌^◌, ℕ, Bool, true, false, if◌then◌else◌, List, [], ◌∷◌, ◌++◌, ◌≢◌, map, refl, ap, sym, ◌∙◌, subst, arith, append_assoc, append-nil, chars, drop, get_or, inl, inr, encode_utf8, encode_utf8_all, IsUtf8}
 use Rattle.std.proofs.lemmas.Bool.{false≢true, true≢false, cases_Bool}
 use Rattle.std.proofs.lemmas.Bool.Decides.{nat_tests}
 use Rattle.std.proofs.lemmas.Str.{encode_ascii, encodes-chars}
@@ -8,7 +8,7 @@ use Rattle.std.specs.List.{list_all}
 use Rattle.psc_js_names.specs.Names.{is_plain, letter, coded, letters, mark, printed, behind, local, part, parts}
 use Rattle.psc_js_names.specs.Reserved.{is_reserved}
 use Rattle.psc_js_names.specs.Kinds.{IsSourceName, IsPart, AreParts, is_hex, begins_hex}
-use Rattle.psc_js_names.proofs.Hex.{HexFrom, hex_from, hex_same, all_hex, first, second}
+use Rattle.psc_js_names.proofs.Hex.{hex_from, hex_same, all_hex, first, second}
 
 pub heads : (a b : ℕ) (xs ys : List ℕ) → a ∷ xs ≡ b ∷ ys → a ≡ b
 heads a b xs ys h = ap (λ (l : List ℕ). get_or l 0 0) h

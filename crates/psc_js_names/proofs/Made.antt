@@ -1,5 +1,5 @@
 -- Names that the compiler makes print apart from those of the source, and from one another.
-use Rattle.std.proofs.Common.{◌≡◌, ◌<◌, ◌^◌, ℕ, Bool, true, false, ◌&&◌, ◌||◌, if◌then◌else◌, List, [], ◌∷◌, ◌++◌, ◌≢◌, refl, ap, sym, ◌∙◌, subst, arith, append_assoc, append-nil, bytes_eq, chars, codes, ◌⊎◌, All, inl, inr, IsUtf8}
+use Rattle.std.proofs.Common.{◌≡◌, ◌<◌, ◌^◌, ℕ, Bool, true, false, ◌&&◌, ◌||◌, if◌then◌else◌, List, [], ◌∷◌, ◌++◌, ◌≢◌, refl, ap, sym, ◌∙◌, subst, arith, append_assoc, append-nil, bytes_eq, chars, All, inl, inr, IsUtf8}
 use Rattle.std.specs.Char.{is_ascii_alphanumeric}
 use Rattle.std.specs.Fmt.{digits}
 use Rattle.std.specs.List.{list_all, list_any}
@@ -11,9 +11,9 @@ use Rattle.std.proofs.lemmas.Str.Ascii.{IsAscii-from_all}
 use Rattle.std.proofs.lemmas.Slice.Eq.{bytes_eq-Decides}
 use Rattle.psc_js_names.specs.Names.{is_plain, letter, letters, mark, printed, behind, local}
 use Rattle.psc_js_names.specs.Reserved.{reserved, is_reserved}
-use Rattle.psc_js_names.specs.Kinds.{IsSourceName, IsSmallWord, IsGreatName, IsMadeName, IsInstanceName, IsTopName, IsLocalName, HasTopNames, IsName, is_hex, begins_hex, is_small}
+use Rattle.psc_js_names.specs.Kinds.{IsSourceName, IsSmallWord, IsMadeName, IsInstanceName, IsTopName, IsLocalName, HasTopNames, IsName, is_hex, is_small}
 use Rattle.psc_js_names.proofs.Hex.{first, second, all_hex}
-use Rattle.psc_js_names.proofs.Apart.{stays, is_coded, heads, tails, nil_no_cons, written, plain_letter, letter_not_nil, letter_no_digit, behind_mark, letters_apart, shadows_apart, text_same, names_apart, locals_apart, local_not_top}
+use Rattle.psc_js_names.proofs.Apart.{stays, is_coded, heads, tails, nil_no_cons, written, plain_letter, letter_not_nil, letter_no_digit, behind_mark, letters_apart, text_same, names_apart, locals_apart, local_not_top}
 
 -- words of ASCII letters and digits
 abbrev pub is_word : List ℕ → Bool
@@ -135,7 +135,7 @@ no_word_behind p false (c ∷ cs) d ds a w h = elim (written c) as (λ _. ⊥) [
       let k : ((36 ∷ (digits 16 false c ++ 36 ∷ [])) ++ letters cs) ++ behind p ≡ 36 ∷ (d ∷ ds) = ap (λ (l : List ℕ). (l ++ letters cs) ++ behind p) (sym e) ∙ h in
       let t : ((digits 16 false c ++ 36 ∷ []) ++ letters cs) ++ behind p ≡ d ∷ ds = tails _ _ _ _ k in
       word_no_mark (digits 16 false c) (letters cs ++ behind p) (d ∷ ds) w
-        (sym (append_assoc (digits 16 false c) (36 ∷ []) (letters cs ++ behind p)) ∙ sym (append_assoc (digits 16 false c ++ 36 ∷ []) (letters cs) (behind p)) ∙ t)
+      (sym (append_assoc (digits 16 false c) (36 ∷ []) (letters cs ++ behind p)) ∙ sym (append_assoc (digits 16 false c ++ 36 ∷ []) (letters cs) (behind p)) ∙ t)
 ]
 
 no_great_behind_mark : (p : Bool) (x : List ℕ) (d : ℕ) (ds : List ℕ) → is_fit x ≡ true → d ≢ 36 → 36 ∷ (letters x ++ behind p) ≡ letter d ++ letters ds → ⊥

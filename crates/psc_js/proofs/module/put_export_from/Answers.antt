@@ -1,5 +1,5 @@
 use Rattle.psc_js.specs.Module as text_of
-use Rattle.psc_js.proofs.Appended.{more, last}
+use Rattle.psc_js.proofs.Appended.{last}
 use Rattle.psc_js.proofs.module.put_export_from.Goals as goal
 
 pub returns : goal.returns

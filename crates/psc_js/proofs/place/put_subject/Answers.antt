@@ -1,5 +1,5 @@
 use Rattle.psc_js.specs.Place as text_of
-use Rattle.psc_js.proofs.Appended.{more, last}
+use Rattle.psc_js.proofs.Appended.{last}
 use Rattle.psc_js.proofs.place.put_subject.Goals as goal
 
 pub returns : goal.returns

@@ -1,6 +1,6 @@
 use Rattle.std.proofs.Common.{◌≡◌, ◌++◌, map, drop}
 use Rattle.psc_js_tree.specs.Module as spec
-use Rattle.psc_js_tree.specs.Expr.{bind, binding}
+use Rattle.psc_js_tree.specs.Expr.{bind}
 use Rattle.psc_js_tree.specs.Scope.{scope}
 use Rattle.psc_js_tree.proofs.module.add_consts.Given as goal
 

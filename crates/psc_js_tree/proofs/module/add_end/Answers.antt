@@ -1,5 +1,5 @@
 use Rattle.psc_js_tree.specs.Module as lines_of
-use Rattle.psc_js_tree.proofs.Added.{more, last}
+use Rattle.psc_js_tree.proofs.Added.{last}
 use Rattle.psc_js_tree.proofs.module.add_end.Goals as goal
 
 pub returns : goal.returns
