@@ -33,8 +33,8 @@ walk_remains whole (Node l o r) n k stack rest e lt rem =
     let op : Turn = turn.Operator (n + length (operators_of l)) in
     let order : ((walk l n ++ walk r (n + length (operators_of l) + 1)) ++ turn.Operator (n + length (operators_of l)) ∷ []) ++ rest ≡ walk l n ++ (walk r (n + length (operators_of l) + 1) ++ (turn.Operator (n + length (operators_of l)) ∷ rest)) = append_assoc (walk l n ++ walk r (n + length (operators_of l) + 1)) (turn.Operator (n + length (operators_of l)) ∷ []) rest ∙ append_assoc (walk l n) (walk r (n + length (operators_of l) + 1)) (turn.Operator (n + length (operators_of l)) ∷ rest) in
     rw order (walk_remains whole l n (n + length (operators_of l) + 1) stack (walk r (n + length (operators_of l) + 1) ++ (turn.Operator (n + length (operators_of l)) ∷ rest)) refl (omega arith)
-        (walk_remains whole r (n + length (operators_of l) + 1) k (finished l n ∷ stack) (turn.Operator (n + length (operators_of l)) ∷ rest) (omega arith) (omega arith)
-            (Joins k n l r o stack rest (omega arith) rem)))
+    (walk_remains whole r (n + length (operators_of l) + 1) k (finished l n ∷ stack) (turn.Operator (n + length (operators_of l)) ∷ rest) (omega arith) (omega arith)
+    (Joins k n l r o stack rest (omega arith) rem)))
 
 module _ {T : Type 0} (Op : Mention → T → T → T → Type 0) (operators : List Operator) (operands : List (Operand T)) (targets : List Mention) (turns : List Turn) (w : IsTheWalk operators turns) (sized : length operands ≡ length operators + 1) where
   -- nothing is told yet

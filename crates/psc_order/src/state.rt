@@ -7,6 +7,7 @@ use psc_brackets::{Clash, Operator};
 use psc_chain::{Bracketed, Chain, Joins, Operand, Size, tree_of};
 use psc_error::Code;
 use psc_text::{NoMemory, Qualified, Span, Text};
+use sqlite_items::Items;
 use std::alloc::Global;
 use std::collections::{BTreeMap, VecDeque};
 
@@ -237,7 +238,7 @@ impl<T: Drop> Reading<T> {
 /// The elements of a list, in their order.
 pub(crate) fn in_order<T: Drop>(
     alloc: Global,
-    items: sqlite_items::Items<T>,
+    items: Items<T>,
 ) -> Result<Vec<T>, NoMemory> {
     let mut items = items;
     let mut list = Vec::new(alloc);
