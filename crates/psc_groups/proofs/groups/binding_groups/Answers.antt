@@ -1,7 +1,7 @@
-use Rattle.std.proofs.Common.{◌≡◌, ◌<◌, length, arith, Vec, Global}
+use Rattle.std.proofs.Common.{length, arith, Vec, Global}
 use Rattle.std.proofs.lemmas.Result.{IfOk-weaker}
 use Rattle.psc_groups.specs.Order.{IsOrder}
-use Rattle.psc_groups.specs.Groups.{AreMembers, AreLinks, AreGroups, IsGrouping}
+use Rattle.psc_groups.specs.Groups.{AreMembers, AreLinks}
 use Rattle.psc_groups.specs.declared.groups.BindingGroup.{BindingGroup}
 use Rattle.psc_groups.proofs.Joining.{can_order, grouping, ordered_within}
 use Rattle.psc_groups.proofs.groups.binding_groups.Goals as goal

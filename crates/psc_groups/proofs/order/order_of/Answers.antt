@@ -1,4 +1,4 @@
-use Rattle.std.proofs.Common.{◌≡◌, length, refl, rules, arith}
+use Rattle.std.proofs.Common.{◌≡◌, length, refl, rules}
 use Rattle.psc_groups.proofs.Placing.{stand_more, finished, take_queue, take_next, first_within}
 use Rattle.psc_groups.proofs.order.order_of.Goals as goal
 
