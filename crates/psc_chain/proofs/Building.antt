@@ -7,7 +7,7 @@ use Rattle.psc_brackets.specs.declared.chain.Turn.TheVariants as turn
 use Rattle.psc_brackets.specs.Right.{Tree, Leaf, Node, operators_of, walk, IsTheWalk}
 use Rattle.psc_chain.specs.declared.tree.Operand.{Operand}
 use Rattle.psc_chain.specs.declared.tree.Piece.{Piece}
-use Rattle.psc_chain.specs.Built.{IsBuilt, AtLeaf, AtNode, IsTreeOf, Finished, finished, Remains, Whole, Reads, Joins, AreBuilt, NoPiece, LastPiece, IsOnTheWay, ReadsOperand, JoinsLast}
+use Rattle.psc_chain.specs.Built.{IsBuilt, AtLeaf, AtNode, IsTreeOf, Finished, finished, Remains, Whole, Reads, Joins, AreBuilt, NoPiece, LastPiece, IsOnTheWay, CanTake, IsTaken, ReadsOperand, JoinsLast}
 
 same_last : {A : Type 0} → (xs ys : List A) (x y : A) → xs ++ x ∷ [] ≡ ys ++ y ∷ [] → (xs ≡ ys) × (x ≡ y)
 same_last [] [] x y e = (refl, cc)
@@ -33,8 +33,8 @@ walk_remains whole (Node l o r) n k stack rest e lt rem =
     let op : Turn = turn.Operator (n + length (operators_of l)) in
     let order : ((walk l n ++ walk r (n + length (operators_of l) + 1)) ++ turn.Operator (n + length (operators_of l)) ∷ []) ++ rest ≡ walk l n ++ (walk r (n + length (operators_of l) + 1) ++ (turn.Operator (n + length (operators_of l)) ∷ rest)) = append_assoc (walk l n ++ walk r (n + length (operators_of l) + 1)) (turn.Operator (n + length (operators_of l)) ∷ []) rest ∙ append_assoc (walk l n) (walk r (n + length (operators_of l) + 1)) (turn.Operator (n + length (operators_of l)) ∷ rest) in
     rw order (walk_remains whole l n (n + length (operators_of l) + 1) stack (walk r (n + length (operators_of l) + 1) ++ (turn.Operator (n + length (operators_of l)) ∷ rest)) refl (omega arith)
-        (walk_remains whole r (n + length (operators_of l) + 1) k (finished l n ∷ stack) (turn.Operator (n + length (operators_of l)) ∷ rest) (omega arith) (omega arith)
-            (Joins k n l r o stack rest (omega arith) rem)))
+    (walk_remains whole r (n + length (operators_of l) + 1) k (finished l n ∷ stack) (turn.Operator (n + length (operators_of l)) ∷ rest) (omega arith) (omega arith)
+    (Joins k n (n + length (operators_of l)) l r o stack rest refl (omega arith) rem)))
 
 module _ {T : Type 0} (Op : Mention → T → T → T → Type 0) (operators : List Operator) (operands : List (Operand T)) (targets : List Mention) (turns : List Turn) (w : IsTheWalk operators turns) (sized : length operands ≡ length operators + 1) where
   -- nothing is told yet
@@ -71,7 +71,7 @@ module _ {T : Type 0} (Op : Mention → T → T → T → Type 0) (operators : L
               remains = rem;
               built = LastPiece (finished Leaf at) stack pieces more r.piece r.now built (rw r.same (AtLeaf at r.operand d.0));
               waits = d.1;
-              fits = let z : length waiting ≡ length waits + 1 = ap length r.was in omega arith;
+              fits = let z : length waiting ≡ suc (length waits) = ap length r.was in omega arith;
             }
 
     -- two pieces are there, and the operator has its target
@@ -79,7 +79,7 @@ module _ {T : Type 0} (Op : Mention → T → T → T → Type 0) (operators : L
     two_stand n rest h = from h.at h.stack h.remains h.built
       where
         from : (at : ℕ) (stack : List Finished) → Remains w.tree at stack (turn.Operator n ∷ rest) → AreBuilt Op operands targets stack pieces → 2 ≤ length pieces
-        from _ _ (Joins at m l r o stack _ lt rem) (LastPiece _ _ front _ piece e (LastPiece _ _ before _ other d b x) y) =
+        from _ _ (Joins at m _ l r o stack _ eq lt rem) (LastPiece _ _ front _ piece e (LastPiece _ _ before _ other d b x) y) =
             let p : length pieces ≡ length front + 1 = ap length e ∙ length-append front (piece ∷ []) in
             let q : length front ≡ length before + 1 = ap length d ∙ length-append before (other ∷ []) in
             omega arith
@@ -88,24 +88,34 @@ module _ {T : Type 0} (Op : Mention → T → T → T → Type 0) (operators : L
     has_target n rest h = from h.at h.stack h.remains
       where
         from : (at : ℕ) (stack : List Finished) → Remains w.tree at stack (turn.Operator n ∷ rest) → n < length operators
-        from _ _ (Joins at m l r o stack _ lt rem) = let z = size_of_tree in omega arith
+        from _ _ (Joins at m _ l r o stack _ eq lt rem) = let z = size_of_tree in omega arith
 
     pub joins : (n : ℕ) (rest : List Turn) (more : List (Piece T)) → IsOnTheWay Op w.tree operands targets waiting pieces (turn.Operator n ∷ rest) → JoinsLast Op targets n pieces more → IsOnTheWay Op w.tree operands targets waiting more rest
     joins n rest more h j = from h.at h.stack h.remains h.built h.waits h.fits
       where
         from : (at : ℕ) (stack : List Finished) → Remains w.tree at stack (turn.Operator n ∷ rest) → AreBuilt Op operands targets stack pieces → waiting ≡ drop at operands → at + length waiting ≡ length operands → IsOnTheWay Op w.tree operands targets waiting more rest
-        from _ _ (Joins at m l r o stack _ lt rem) (LastPiece _ _ front _ piece e (LastPiece _ _ before _ other d b x) y) is fits =
+        from _ _ (Joins at m _ l r o stack _ eq lt rem) (LastPiece _ _ front _ piece e (LastPiece _ _ before _ other d b x) y) is fits =
             let p = same_last front (j.front ++ j.left ∷ []) piece j.right (sym e ∙ j.was) in
             let q = same_last before j.front other j.left (sym d ∙ p.0) in
+            let target : slice_get targets (m + length (operators_of l)) ≡ Some j.target = rw (← eq) j.at in
+            let right : IsBuilt Op operands targets r (m + length (operators_of l) + 1) piece.tree = rw (← eq) y in
             record {
               at = at;
               stack = finished (Node l o r) m ∷ stack;
               remains = rem;
               built = LastPiece (finished (Node l o r) m) stack before more j.piece (rw q.0 j.now) b
-                  (AtNode l r o m j.target other.tree piece.tree j.piece.tree x j.at y (rw (q.1, p.1) j.joined));
+                  (AtNode l r o m j.target other.tree piece.tree j.piece.tree x target right (rw (q.1, p.1) j.joined));
               waits = is;
               fits = fits;
             }
+
+    pub can_take : length targets ≡ length operators → (t : Turn) (rest : List Turn) → IsOnTheWay Op w.tree operands targets waiting pieces (t ∷ rest) → CanTake Op targets t waiting pieces
+    can_take same (turn.Operand n) rest h = one_waits n rest h
+    can_take same (turn.Operator n) rest h = (two_stand n rest h, let z = has_target n rest h in omega arith)
+
+    pub goes_on : (t : Turn) (rest : List Turn) (waits : List (Operand T)) (more : List (Piece T)) → IsOnTheWay Op w.tree operands targets waiting pieces (t ∷ rest) → IsTaken Op targets t waiting waits pieces more → IsOnTheWay Op w.tree operands targets waits more rest
+    goes_on (turn.Operand n) rest waits more h t = reads n rest waits more h t
+    goes_on (turn.Operator n) rest waits more h t = rw t.1 (joins n rest more h t.0)
 
     -- one piece is left, and it is the whole
     pub last_stands : IsOnTheWay Op w.tree operands targets waiting pieces [] → 0 < length pieces

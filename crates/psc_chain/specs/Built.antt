@@ -1,5 +1,5 @@
 -- Trees of the language that are built of the operands of a chain.
-use Rattle.std.specs.Prelude.{◌≡◌, ℕ, ◌+◌, ◌<◌, List, [], ◌∷◌, ◌++◌, length, drop, slice_get, Some}
+use Rattle.std.specs.Prelude.{◌≡◌, ℕ, ◌+◌, ◌<◌, ◌≤◌, List, [], ◌∷◌, ◌++◌, length, drop, slice_get, Some}
 use Rattle.psc_text.specs.declared.span.Span.{Span}
 use Rattle.psc_ast.specs.declared.names.Mention.{Mention}
 use Rattle.psc_ast.specs.declared.exprs.ExprTree.{ExprTree}
@@ -44,7 +44,15 @@ finished t n = record { shape = t; from = n }
 pub data Remains (whole : Tree) : ℕ → List Finished → List Turn → Type 0 where
   Whole : (at : ℕ) → Remains whole at (finished whole 0 ∷ []) []
   Reads : (at : ℕ) (stack : List Finished) (rest : List Turn) → at < length (operators_of whole) + 1 → Remains whole (at + 1) (finished Leaf at ∷ stack) rest → Remains whole at stack (turn.Operand at ∷ rest)
-  Joins : (at n : ℕ) (l r : Tree) (o : Operator) (stack : List Finished) (rest : List Turn) → n + length (operators_of l) < length (operators_of whole) → Remains whole at (finished (Node l o r) n ∷ stack) rest → Remains whole at (finished r (n + length (operators_of l) + 1) ∷ (finished l n ∷ stack)) (turn.Operator (n + length (operators_of l)) ∷ rest)
+  Joins : (at n k : ℕ) (l r : Tree) (o : Operator) (stack : List Finished) (rest : List Turn) → k ≡ n + length (operators_of l) → k < length (operators_of whole) → Remains whole at (finished (Node l o r) n ∷ stack) rest → Remains whole at (finished r (k + 1) ∷ (finished l n ∷ stack)) (turn.Operator k ∷ rest)
+
+-- the first operand that waited is the last piece
+pub record ReadsOperand {T : Type 0} (waited waits : List (Operand T)) (old new : List (Piece T)) : Type 0 where
+  pub operand : Operand T
+  pub piece : Piece T
+  pub was : waited ≡ operand ∷ waits
+  pub now : new ≡ old ++ piece ∷ []
+  pub same : piece.tree ≡ operand.tree
 
 module _ {T : Type 0} (IsOperation : Mention → T → T → T → Type 0) where
   -- the tree is built of the operands and the targets, from those of a number on, as the tree of operators says
@@ -92,10 +100,12 @@ module _ {T : Type 0} (IsOperation : Mention → T → T → T → Type 0) where
     pub at : slice_get targets number ≡ Some target
     pub joined : IsOperation target left.tree right.tree piece.tree
 
--- the first operand that waited is the last piece
-pub record ReadsOperand {T : Type 0} (waited waits : List (Operand T)) (old new : List (Piece T)) : Type 0 where
-  pub operand : Operand T
-  pub piece : Piece T
-  pub was : waited ≡ operand ∷ waits
-  pub now : new ≡ old ++ piece ∷ []
-  pub same : piece.tree ≡ operand.tree
+  -- the turn can be taken: an operand waits, or two pieces stand there and the operator has its target
+  abbrev pub CanTake : List Mention → Turn → List (Operand T) → List (Piece T) → Type 0
+  CanTake targets (turn.Operand n) waiting pieces = 0 < length waiting
+  CanTake targets (turn.Operator n) waiting pieces = (2 ≤ length pieces) × (n < length targets)
+
+  -- the turn is taken
+  abbrev pub IsTaken : List Mention → Turn → List (Operand T) → List (Operand T) → List (Piece T) → List (Piece T) → Type 0
+  IsTaken targets (turn.Operand n) waited waits old new = ReadsOperand waited waits old new
+  IsTaken targets (turn.Operator n) waited waits old new = JoinsLast targets n old new × (waits ≡ waited)

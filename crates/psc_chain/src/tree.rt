@@ -2,7 +2,7 @@
 
 ghost use Rattle.std.specs.Prelude.{◌≡◌, ◌+◌, ◌≤◌, ◌<◌, ◌++◌, [], ◌∷◌, length, drop, slice_get, Some, IfOk, OnOk};
 ghost use Rattle.psc_brackets.specs.Right.{IsTheWalk};
-ghost use Rattle.psc_chain.specs.Built.{IsBracketed, IsTreeOf, ReadsOperand, JoinsLast};
+ghost use Rattle.psc_chain.specs.Built.{IsBracketed, IsTreeOf, CanTake, IsTaken, ReadsOperand, JoinsLast};
 
 use crate::joins::Joins;
 use crate::size::Size;
@@ -102,12 +102,25 @@ fn assemble<T: Joins>(
     let mut waiting = operands;
     let mut pieces: Vec<Piece<T>> = Vec::new(alloc);
     for turn in turns {
-        match *turn {
-            Turn::Operand(_) => read_operand(&mut waiting, &mut pieces)?,
-            Turn::Operator(number) => join_last(alloc, &mut pieces, targets, number)?,
-        }
+        take_turn(alloc, &mut waiting, &mut pieces, targets, *turn)?;
     }
     Ok(pieces.pop().unwrap())
+}
+
+fn take_turn<T: Joins>(
+    alloc: Global,
+    waiting: &mut VecDeque<Operand<T>>,
+    pieces: &mut Vec<Piece<T>>,
+    targets: &[Mention],
+    turn: Turn,
+) -> Result<(), NoMemory>
+    requires { CanTake T.is_operation targets.now turn waiting.old.items pieces.old.items }
+    ensures { OnOk result (IsTaken T.is_operation targets.now turn waiting.old.items waiting.new.items pieces.old.items pieces.new.items) }
+{
+    match turn {
+        Turn::Operand(_) => read_operand(waiting, pieces),
+        Turn::Operator(number) => join_last(alloc, pieces, targets, number),
+    }
 }
 
 /// Puts the next operand on the stack.

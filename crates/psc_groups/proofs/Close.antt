@@ -1,13 +1,12 @@
 -- The last part is a group.
-use Rattle.std.proofs.Common.{◌≡◌, ◌≢◌, ℕ, ◌+◌, ◌<◌, ◌≤◌, zero, suc, List, [], ◌∷◌, ◌++◌, length, length-append, take, map, Some, slice_get, slice_set, ◌⊎◌, inl, inr, ap, refl, sym, ◌∙◌, arith, add-one}
-use Rattle.psc_groups.specs.Graph.{Reaches, here}
+use Rattle.std.proofs.Common.{◌≡◌, ℕ, ◌+◌, ◌<◌, ◌≤◌, zero, suc, List, [], ◌∷◌, ◌++◌, length, take, Some, slice_get, ◌⊎◌, inl, inr, ap, refl, arith}
+use Rattle.psc_groups.specs.Graph.{Reaches}
 use Rattle.psc_groups.specs.Path.{Together, Followed, Closed, OnPath, Awaited, IsPath}
 use Rattle.psc_groups.specs.declared.walk.Mark.{Mark}
-use Rattle.psc_groups.specs.declared.walk.Mark.TheVariants.{New, Open, Done}
+use Rattle.psc_groups.specs.declared.walk.Mark.TheVariants.{Open, Done}
 use Rattle.psc_groups.specs.declared.walk.Waiting.{Waiting}
 use Rattle.psc_groups.specs.declared.walk.Part.{Part}
-use Rattle.psc_groups.proofs.Lists.{after_push, before, pushed, after_more, beyond, after_write, unwritten, written, within, after_take, taken, same_item}
-use Rattle.psc_groups.proofs.Walks.{joined, step}
+use Rattle.psc_groups.proofs.Lists.{after_push, before, pushed, within, after_take, taken, same_item}
 use Rattle.psc_groups.proofs.Leave.{below_last, in_last}
 
 length-take_le : {A : Type 0} → (n : ℕ) (xs : List A) → n ≤ length xs → length (take n xs) ≡ n

@@ -1,5 +1,5 @@
 -- Whether all mentions are of declarations.
-use Rattle.std.proofs.Common.{◌≡◌, ◌↔◌, ℕ, ◌+◌, ◌<◌, ◌≤◌, List, Bool, true, false, IsTrue, length, Some, slice_get, ◌⊎◌, inl, inr, refl, sym, ◌∙◌, arith, Vec, Global}
+use Rattle.std.proofs.Common.{◌≡◌, ◌↔◌, ℕ, ◌+◌, ◌<◌, ◌≤◌, List, Bool, true, false, IsTrue, length, Some, slice_get, inl, inr, refl, sym, ◌∙◌, arith, Vec, Global}
 use Rattle.psc_groups.specs.Graph.{Mentions, AllDeclared}
 use Rattle.psc_groups.specs.Groups.{AllBelow}
 use Rattle.psc_groups.proofs.Lists.{within, same_item}

@@ -1,13 +1,12 @@
 -- A declaration comes to the end of the path.
-use Rattle.std.proofs.Common.{◌≡◌, ◌≢◌, ℕ, ◌+◌, ◌<◌, ◌≤◌, zero, suc, List, [], ◌∷◌, ◌++◌, length, length-append, take, map, Some, slice_get, slice_set, ◌⊎◌, inl, inr, ap, refl, sym, ◌∙◌, arith, add-one}
+use Rattle.std.proofs.Common.{◌≡◌, ℕ, ◌+◌, ◌<◌, ◌≤◌, zero, suc, List, [], ◌∷◌, ◌++◌, length, length-append, map, Some, slice_get, slice_set, ◌⊎◌, inl, inr, ap, refl, sym, ◌∙◌, arith}
 use Rattle.psc_groups.specs.Graph.{Reaches, here}
 use Rattle.psc_groups.specs.Path.{Together, Followed, Closed, OnPath, Awaited, IsPath, awaiting}
 use Rattle.psc_groups.specs.declared.walk.Mark.{Mark}
 use Rattle.psc_groups.specs.declared.walk.Mark.TheVariants.{New, Open, Done}
 use Rattle.psc_groups.specs.declared.walk.Waiting.{Waiting}
 use Rattle.psc_groups.specs.declared.walk.Part.{Part}
-use Rattle.psc_groups.proofs.Lists.{after_push, before, pushed, after_more, beyond, after_write, unwritten, written, within, after_take, taken, same_item}
-use Rattle.psc_groups.proofs.Walks.{joined, step}
+use Rattle.psc_groups.proofs.Lists.{after_push, before, pushed, after_more, beyond, after_write, unwritten, written, within, same_item}
 
 abbrev pub part_at : ℕ → ℕ → Part
 part_at p t = record { open_from = p; waiting_from = t }

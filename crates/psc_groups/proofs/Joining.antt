@@ -1,14 +1,14 @@
 -- The groups from their numbers and the order.
-use Rattle.std.proofs.Common.{◌≡◌, ◌↔◌, ℕ, ◌+◌, ◌<◌, ◌≤◌, zero, suc, List, [], ◌∷◌, ◌++◌, Bool, true, false, IsTrue, length, length-append, Some, None, slice_get, slice_set, ◌⊎◌, inl, inr, ap, refl, sym, ◌∙◌, arith, length-set}
+use Rattle.std.proofs.Common.{◌≡◌, ℕ, ◌+◌, ◌<◌, ◌≤◌, List, [], ◌∷◌, ◌++◌, Bool, true, false, IsTrue, length, length-append, Some, slice_get, slice_set, ◌⊎◌, inl, inr, ap, refl, sym, ◌∙◌, arith, length-set}
 use Rattle.std.specs.declared.vec.Vec.{Vec}
 use Rattle.std.specs.declared.alloc.Global.{Global}
 use Rattle.psc_groups.specs.Graph.{Mentions, Reaches, here, onward, AllDeclared, IsNumbering}
-use Rattle.psc_groups.specs.Order.{FirstOf, StandsIn, StandsBefore, CanOrder, IsOrdered, IsOrder, Adds}
-use Rattle.psc_groups.specs.Groups.{IsMember, MentionsItself, IsReadyAt, IsEarlier, IsGrouping, AreMembers, Link, IsSeen, AreLinks, IsGroupOf, AreGroups, AreEmpty, AreUnset, AddsLink}
+use Rattle.psc_groups.specs.Order.{FirstOf, StandsIn, StandsBefore, CanOrder, IsOrder, Adds}
+use Rattle.psc_groups.specs.Groups.{IsMember, MentionsItself, IsReadyAt, IsEarlier, IsGrouping, AreMembers, IsSeen, AreLinks, IsGroupOf, AreGroups, AreEmpty, AreUnset, AddsLink}
 use Rattle.psc_groups.specs.declared.groups.BindingGroup.{BindingGroup}
 use Rattle.psc_groups.specs.declared.groups.Links.{Links}
-use Rattle.psc_groups.proofs.Lists.{after_push, before, pushed, after_write, unwritten, written, within, some_at, same_item}
-use Rattle.psc_groups.proofs.Placing.{same_or_not, added, kept, stands_there, first_same}
+use Rattle.psc_groups.proofs.Lists.{after_push, after_write, unwritten, written, within, some_at, same_item}
+use Rattle.psc_groups.proofs.Placing.{same_or_not, added, kept, stands_there}
 
 -- the declarations by their numbers
 pub no_members : (numbers : List ℕ) (count : ℕ) (lists : List (Vec ℕ Global)) → AreEmpty lists count → AreMembers numbers count 0 lists

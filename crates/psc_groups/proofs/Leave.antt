@@ -1,12 +1,12 @@
 -- The last two parts become one, or a mention that tells nothing new is left out.
-use Rattle.std.proofs.Common.{◌≡◌, ◌≢◌, ℕ, ◌+◌, ◌<◌, ◌≤◌, zero, suc, List, [], ◌∷◌, ◌++◌, length, length-append, take, map, Some, slice_get, slice_set, ◌⊎◌, inl, inr, ap, refl, sym, ◌∙◌, arith, add-one}
-use Rattle.psc_groups.specs.Graph.{Reaches, here}
+use Rattle.std.proofs.Common.{◌≡◌, ℕ, ◌<◌, ◌≤◌, zero, suc, List, [], ◌∷◌, ◌++◌, length, Some, slice_get, ◌⊎◌, inl, inr, ap, refl, sym, ◌∙◌, arith}
+use Rattle.psc_groups.specs.Graph.{Reaches}
 use Rattle.psc_groups.specs.Path.{Together, Followed, Closed, OnPath, Awaited, IsPath}
 use Rattle.psc_groups.specs.declared.walk.Mark.{Mark}
-use Rattle.psc_groups.specs.declared.walk.Mark.TheVariants.{New, Open, Done}
+use Rattle.psc_groups.specs.declared.walk.Mark.TheVariants.{Open, Done}
 use Rattle.psc_groups.specs.declared.walk.Waiting.{Waiting}
 use Rattle.psc_groups.specs.declared.walk.Part.{Part}
-use Rattle.psc_groups.proofs.Lists.{after_push, before, pushed, after_more, beyond, after_write, unwritten, written, within, after_take, taken, same_item}
+use Rattle.psc_groups.proofs.Lists.{after_push, before, pushed, within}
 use Rattle.psc_groups.proofs.Walks.{joined, step}
 
 module _ (E : ℕ → ℕ → Type 0) (marks : List Mark) (line : List ℕ) (waiting : List Waiting) (parts : List Part) (last : Part) (done : ℕ) (path : IsPath E marks line waiting (parts ++ last ∷ []) done) where

@@ -1,5 +1,5 @@
 -- The elements of a list after a push, a pop and a write.
-use Rattle.std.proofs.Common.{◌≡◌, ◌≢◌, ℕ, ◌+◌, ◌<◌, ◌≤◌, zero, suc, List, [], ◌∷◌, ◌++◌, ◌-◌, length, length-append, take, map, Some, slice_get, slice_set, ◌⊎◌, inl, inr, ap, refl, sym, ◌∙◌, arith, add-one}
+use Rattle.std.proofs.Common.{◌≡◌, ◌≢◌, ℕ, ◌+◌, ◌<◌, zero, suc, List, [], ◌∷◌, ◌++◌, length, take, Some, slice_get, slice_set, ◌⊎◌, inl, inr, ap, refl, arith}
 
 module _ {A : Type 0} where
   pub after_push : (xs : List A) (y : A) (k : ℕ) (n : A) → slice_get (xs ++ y ∷ []) k ≡ Some n → ((k ≡ length xs) × (n ≡ y)) ⊎ (slice_get xs k ≡ Some n)

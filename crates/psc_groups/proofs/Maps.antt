@@ -1,6 +1,6 @@
 -- The map of ready groups.
-use Rattle.std.proofs.Common.{◌≡◌, ◌↔◌, ℕ, ◌<◌, ◌≤◌, List, [], ◌∷◌, length, Bool, true, false, Option, Some, None, IsSome, IfSome, MatchOption, slice_get, ◌⊎◌, inl, inr, refl, sym, ◌∙◌, arith, zero, suc, ap}
-use Rattle.std.specs.Ordering.{nat_cmp, is_eq, is_gt}
+use Rattle.std.proofs.Common.{◌≡◌, ◌↔◌, ℕ, ◌<◌, List, [], ◌∷◌, length, true, false, Option, Some, None, IsSome, IfSome, MatchOption, slice_get, ◌⊎◌, inl, inr, refl, sym, ◌∙◌, arith, zero, suc, ap}
+use Rattle.std.specs.Ordering.{nat_cmp, is_eq}
 use Rattle.std.specs.declared.cmp.Ordering.TheVariants.{Less, Greater}
 use Rattle.std.specs.Cmp.{nat_cmp_is}
 use Rattle.std.specs.BTreeMap.{BTreeMap, get, is_at, btree_map_len, IsLowerBound, Updates}

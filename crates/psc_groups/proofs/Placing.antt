@@ -1,11 +1,11 @@
 -- The queue keeps what the order needs.
-use Rattle.std.proofs.Common.{◌≡◌, ◌≢◌, ℕ, ◌+◌, ◌<◌, ◌≤◌, zero, suc, List, [], ◌∷◌, ◌++◌, Bool, true, false, IsTrue, ◌↔◌, length, length-append, Some, None, Option, MatchOption, slice_get, slice_set, ◌⊎◌, inl, inr, ap, refl, sym, ◌∙◌, arith, length-set}
+use Rattle.std.proofs.Common.{◌≡◌, ℕ, ◌+◌, ◌<◌, ◌≤◌, zero, suc, List, [], ◌∷◌, ◌++◌, Bool, true, false, IsTrue, ◌↔◌, length, Some, None, Option, MatchOption, slice_get, slice_set, ◌⊎◌, inl, inr, ap, refl, sym, ◌∙◌, arith, length-set}
 use Rattle.std.specs.Ordering.{nat_cmp}
-use Rattle.std.specs.BTreeMap.{BTreeMap, get}
+use Rattle.std.specs.BTreeMap.{get}
 use Rattle.std.specs.declared.vec.Vec.{Vec}
 use Rattle.std.specs.declared.alloc.Global.{Global}
 use Rattle.psc_groups.specs.Graph.{Mentions}
-use Rattle.psc_groups.specs.Order.{FirstOf, StandsIn, StandsBefore, StandsFrom, CanOrder, IsOrdered, IsOrder, IsPlaced, IsQueue, Stand, Placed, Ready, Waits, Empty, StandBelow, AlsoStands, IsNext, IsUnplaced, AllPlaced, Adds, Takes, AddsReady, TakesReady, AllStandBut, AllLinksPlaced, IsPlaceOf, TargetAt, WaitsAt}
+use Rattle.psc_groups.specs.Order.{FirstOf, StandsIn, StandsFrom, CanOrder, IsOrdered, IsOrder, IsPlaced, IsQueue, Stand, Placed, Ready, Waits, Empty, StandBelow, AlsoStands, IsNext, IsUnplaced, AllPlaced, Adds, Takes, AddsReady, TakesReady, AllStandBut, AllLinksPlaced, IsPlaceOf, TargetAt, WaitsAt}
 use Rattle.psc_groups.specs.declared.order.Queue.{Queue}
 use Rattle.psc_groups.proofs.Lists.{after_push, before, pushed, after_write, unwritten, unwritten_same, written, within, some_at, same_item}
 

@@ -1,14 +1,14 @@
 -- Each step of the walk keeps what is known of its path.
-use Rattle.std.proofs.Common.{◌≡◌, ◌≢◌, ℕ, ◌+◌, ◌-◌, ◌<◌, ◌≤◌, zero, suc, List, [], ◌∷◌, ◌++◌, length, length-append, length-set, take, map, Some, None, slice_get, slice_set, ◌⊎◌, inl, inr, ap, refl, sym, ◌∙◌, arith, Option, MatchOption, Vec, Global}
+use Rattle.std.proofs.Common.{◌≡◌, ℕ, ◌+◌, ◌-◌, ◌<◌, ◌≤◌, zero, suc, List, [], ◌∷◌, ◌++◌, length, length-append, length-set, map, Some, None, slice_get, slice_set, ◌⊎◌, inl, inr, ap, refl, sym, ◌∙◌, arith, Option, MatchOption, Vec, Global}
 use Rattle.std.proofs.lemmas.Bool.Decides.{eqb_tells}
-use Rattle.psc_groups.specs.Graph.{Reaches, Mentions, AllDeclared, IsNumbering}
+use Rattle.psc_groups.specs.Graph.{Reaches, Mentions, IsNumbering}
 use Rattle.psc_groups.specs.Path.{IsPath, Walks, AllNew, Ages, EndsWith, MatchLast, NoLast, Last, MarksDone, Closes, Joins, Passes, awaiting, number}
 use Rattle.psc_groups.specs.declared.walk.Mark.{Mark}
 use Rattle.psc_groups.specs.declared.walk.Mark.TheVariants.{New, Open, Done}
 use Rattle.psc_groups.specs.declared.walk.Waiting.{Waiting}
 use Rattle.psc_groups.specs.declared.walk.Part.{Part}
 use Rattle.psc_groups.specs.declared.walk.Walk.{Walk}
-use Rattle.psc_groups.proofs.Lists.{after_push, before, pushed, after_write, unwritten, written, within, some_at, same_item, same_last, split_last}
+use Rattle.psc_groups.proofs.Lists.{after_push, pushed, after_write, unwritten, written, within, some_at, same_item, same_last, split_last}
 use Rattle.psc_groups.proofs.Walks.{joined, step}
 use Rattle.psc_groups.proofs.Enter.{part_at, entered}
 use Rattle.psc_groups.proofs.Leave.{in_last, joined_parts, passed}

@@ -1,5 +1,5 @@
 -- Paths of mentions.
-use Rattle.std.proofs.Common.{◌≡◌, ℕ}
+use Rattle.std.proofs.Common.{ℕ}
 use Rattle.psc_groups.specs.Graph.{Reaches, here, onward}
 
 module _ (E : ℕ → ℕ → Type 0) where

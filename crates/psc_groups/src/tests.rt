@@ -1,7 +1,19 @@
 //! Groups of small tables of mentions.
 
-use crate::groups::binding_groups;
+use crate::declared::are_declared;
+use crate::groups::{BindingGroup, binding_groups};
+use psc_text::NoMemory;
+use std::alloc::Global;
 use std::test::Fail;
+
+/// The groups, or none where a mention is of no declaration.
+fn groups_of(alloc: Global, mentions: &[Vec<u32>]) -> Result<Vec<BindingGroup>, NoMemory> {
+    if are_declared(mentions) {
+        binding_groups(alloc, mentions)
+    } else {
+        Ok(Vec::new(alloc))
+    }
+}
 
 /// The groups as a text: a recursive group stands in brackets, another in parentheses.
 fn shown(rt: &HostRuntime, mentions: &[&[u32]]) -> Result<String, Fail> {
@@ -11,7 +23,7 @@ fn shown(rt: &HostRuntime, mentions: &[&[u32]]) -> Result<String, Fail> {
         lists.push(list.to_vec(alloc)?)?;
     }
     let mut text = String::new(alloc);
-    for group in binding_groups(alloc, &lists)? {
+    for group in groups_of(alloc, &lists)? {
         text.push_str(if group.recursive { "[" } else { "(" })?;
         for (at, member) in group.members.iter().enumerate() {
             if at > 0 {

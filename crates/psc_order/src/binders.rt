@@ -183,7 +183,7 @@ fn chain(
 ) -> Result<BinderTree, NoMemory> {
     let mut inside = Size::NONE;
     let first = binder(state, first.into_inner(), fuel, &mut inside)?;
-    let mut reading = Reading::start(state.alloc, first, inside)?;
+    let mut reading = Reading::start(state.alloc, first, inside);
     for BinderStep { op, operand } in in_order(state.alloc, rest)? {
         let mut inside = Size::NONE;
         let operand = binder(state, operand, fuel, &mut inside)?;

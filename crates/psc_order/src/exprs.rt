@@ -126,7 +126,7 @@ fn chain(
 ) -> Result<ExprTree, NoMemory> {
     let mut inside = Size::NONE;
     let first = expr(state, first.into_inner(), fuel, &mut inside)?;
-    let mut reading = Reading::start(state.alloc, first, inside)?;
+    let mut reading = Reading::start(state.alloc, first, inside);
     for ChainStep { op, operand } in in_order(state.alloc, rest)? {
         let mut inside = Size::NONE;
         let operand = expr(state, operand, fuel, &mut inside)?;

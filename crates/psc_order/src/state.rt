@@ -1,12 +1,13 @@
 //! What the bracketing of a module knows and finds.
 
-ghost use Rattle.std.specs.Prelude.{◌≡◌, length, IfOk};
+ghost use Rattle.std.specs.Prelude.{◌≡◌, ◌+◌, length, IfOk};
 
 use psc_ast::{Fixities, Mention, Side};
 use psc_brackets::{Clash, Operator};
 use psc_chain::{Bracketed, Chain, Joins, Operand, Size, tree_of};
 use psc_error::Code;
 use psc_text::{NoMemory, Qualified, Span, Text};
+use sqlite_items::Items;
 use std::alloc::Global;
 use std::collections::{BTreeMap, VecDeque};
 
@@ -47,11 +48,25 @@ pub(crate) struct Bracketing {
     pub too_deep: bool,
 }
 
-/// The operands and operators of a chain, as they are read.
+/// A chain as it is read: its first operand, and each operator with the operand behind it.
 #[derive(Drop)]
 pub(crate) struct Reading<T: Drop> {
-    pub operands: VecDeque<Operand<T>>,
-    pub mentions: Vec<Mention>,
+    first: Operand<T>,
+    rest: Vec<Step<T>>,
+}
+
+/// An operator and the operand behind it.
+#[derive(Drop)]
+struct Step<T: Drop> {
+    mention: Mention,
+    operand: Operand<T>,
+}
+
+/// The operands and operators of a chain apart.
+#[derive(Drop)]
+struct Pieces<T: Drop> {
+    operands: VecDeque<Operand<T>>,
+    mentions: Vec<Mention>,
 }
 
 impl Bracketing {
@@ -176,10 +191,8 @@ impl Bracketing {
         reading: Reading<T>,
         span: Span,
         size: &mut Size,
-    ) -> Result<T, NoMemory>
-        requires { length reading.operands.items ≡ length reading.mentions.items + 1 }
-    {
-        let Reading { operands, mentions } = reading;
+    ) -> Result<T, NoMemory> {
+        let Pieces { operands, mentions } = pieces_of(self.alloc, reading)?;
         let operators = self.operators(&mentions, space)?;
         let targets = self.targets(&mentions, space)?;
         let chain = Chain {
@@ -212,32 +225,40 @@ const TIGHTEST: Operator = Operator {
 
 impl<T: Drop> Reading<T> {
     /// A chain of one operand.
-    pub(crate) fn start(alloc: Global, tree: T, size: Size) -> Result<Reading<T>, NoMemory>
-        ensures { IfOk result (λ reading. length reading.operands.items ≡ length reading.mentions.items + 1) }
-    {
-        let mut operands = VecDeque::new(alloc);
-        operands.push_back(Operand { tree, size })?;
-        Ok(Reading {
-            operands,
-            mentions: Vec::new(alloc),
-        })
+    pub(crate) fn start(alloc: Global, tree: T, size: Size) -> Reading<T> {
+        Reading {
+            first: Operand { tree, size },
+            rest: Vec::new(alloc),
+        }
     }
 
     /// Reads an operator and the operand behind it.
-    pub(crate) fn add(&mut self, mention: Mention, tree: T, size: Size) -> Result<(), NoMemory>
-        requires { length self.old.operands.items ≡ length self.old.mentions.items + 1 }
-        ensures { OnOk result (length self.new.operands.items ≡ length self.new.mentions.items + 1) }
-    {
-        self.mentions.push(mention)?;
-        self.operands.push_back(Operand { tree, size })?;
+    pub(crate) fn add(&mut self, mention: Mention, tree: T, size: Size) -> Result<(), NoMemory> {
+        let operand = Operand { tree, size };
+        self.rest.push(Step { mention, operand })?;
         Ok(())
     }
+}
+
+fn pieces_of<T: Drop>(alloc: Global, reading: Reading<T>) -> Result<Pieces<T>, NoMemory>
+    ensures { IfOk result (λ pieces. length pieces.operands.items ≡ length pieces.mentions.items + 1) }
+{
+    let Reading { first, rest } = reading;
+    let mut operands = VecDeque::new(alloc);
+    let mut mentions = Vec::new(alloc);
+    operands.push_back(first)?;
+    for step in rest {
+        let Step { mention, operand } = step;
+        mentions.push(mention)?;
+        operands.push_back(operand)?;
+    }
+    Ok(Pieces { operands, mentions })
 }
 
 /// The elements of a list, in their order.
 pub(crate) fn in_order<T: Drop>(
     alloc: Global,
-    items: sqlite_items::Items<T>,
+    items: Items<T>,
 ) -> Result<Vec<T>, NoMemory> {
     let mut items = items;
     let mut list = Vec::new(alloc);

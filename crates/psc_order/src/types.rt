@@ -117,7 +117,7 @@ fn chain(
 ) -> Result<TypeTree, NoMemory> {
     let mut inside = Size::NONE;
     let first = x_type(state, first.into_inner(), fuel, &mut inside)?;
-    let mut reading = Reading::start(state.alloc, first, inside)?;
+    let mut reading = Reading::start(state.alloc, first, inside);
     for TypeStep { op, operand } in in_order(state.alloc, rest)? {
         let mut inside = Size::NONE;
         let operand = x_type(state, operand, fuel, &mut inside)?;

@@ -1,4 +1,4 @@
-use Rattle.std.proofs.Common.{◌≡◌, length, slice_get, Some, refl, ap, ◌∙◌, sym, arith, rules, true, false}
+use Rattle.std.proofs.Common.{length, refl, arith, rules}
 use Rattle.std.proofs.lemmas.Option.{slice_get_read}
 use Rattle.psc_groups.proofs.Declaring.{not_declared, more_declared, all_declared}
 use Rattle.psc_groups.proofs.declared.are_declared.Goals as goal

@@ -1,4 +1,4 @@
-use Rattle.std.proofs.Common.{◌≡◌, ◌<◌, ℕ, length, slice_get, Some}
+use Rattle.std.proofs.Common.{◌<◌, ℕ, length}
 use Rattle.psc_groups.specs.Graph.{Mentions}
 use Rattle.psc_groups.proofs.declared.are_declared.Given as goal
 

@@ -1,4 +1,4 @@
-use Rattle.std.proofs.Common.{refl, ◌∙◌, rules, false}
+use Rattle.std.proofs.Common.{refl, ◌∙◌, false}
 use Rattle.std.proofs.lemmas.Option.{slice_get_read, slice_get-get_or}
 use Rattle.psc_groups.proofs.groups.group_of.Goals as goal
 

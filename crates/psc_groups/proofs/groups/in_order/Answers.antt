@@ -1,4 +1,4 @@
-use Rattle.std.proofs.Common.{◌≡◌, ◌<◌, length, rules, refl}
+use Rattle.std.proofs.Common.{◌<◌, length, rules}
 use Rattle.std.proofs.lemmas.Option.{slice_get-get_or}
 use Rattle.psc_groups.proofs.Joining.{more_groups}
 use Rattle.psc_groups.proofs.groups.in_order.Goals as goal

@@ -1,4 +1,4 @@
-use Rattle.std.proofs.Common.{◌≡◌, ◌<◌, length, refl, arith, rules}
+use Rattle.std.proofs.Common.{◌≡◌, ◌<◌, length, rules}
 use Rattle.std.proofs.lemmas.Option.{slice_get-get_or}
 use Rattle.psc_groups.proofs.Joining.{more_members}
 use Rattle.psc_groups.proofs.groups.members_of.Goals as goal

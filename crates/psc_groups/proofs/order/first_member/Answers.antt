@@ -1,4 +1,4 @@
-use Rattle.std.proofs.Common.{refl, ◌∙◌, rules}
+use Rattle.std.proofs.Common.{refl, rules}
 use Rattle.std.proofs.lemmas.Option.{slice_get_read}
 use Rattle.psc_groups.proofs.Maps.{first_told}
 use Rattle.psc_groups.proofs.order.first_member.Goals as goal

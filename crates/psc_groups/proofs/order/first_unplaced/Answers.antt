@@ -1,6 +1,6 @@
 use Rattle.std.proofs.Common.{arith, rules}
 use Rattle.std.proofs.lemmas.Option.{slice_get-get_or}
-use Rattle.psc_groups.proofs.Placing.{all_none, all_more, all_less, found_unplaced, when_true, when_false}
+use Rattle.psc_groups.proofs.Placing.{all_none, all_more, all_less, when_true}
 use Rattle.psc_groups.proofs.order.first_unplaced.Goals as goal
 
 pub is_placed-requires : goal.is_placed-requires

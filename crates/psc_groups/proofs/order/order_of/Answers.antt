@@ -1,5 +1,5 @@
-use Rattle.std.proofs.Common.{◌≡◌, length, refl, rules, arith}
-use Rattle.psc_groups.proofs.Placing.{stand_more, finished, take_queue, take_next, next_within}
+use Rattle.std.proofs.Common.{◌≡◌, length, refl, rules}
+use Rattle.psc_groups.proofs.Placing.{stand_more, finished, take_queue, take_next, first_within}
 use Rattle.psc_groups.proofs.order.order_of.Goals as goal
 
 pub loop-group-preserved : goal.loop-group-preserved
@@ -23,4 +23,4 @@ pub place-requires-clause-next : goal.place-requires-clause-next
 place-requires-clause-next c = take_next _ _ c.requires c.loop.queue c.loop.invariant.queue _ _ _ c.loop.invariant.below c.in-Some.ensures refl refl
 
 pub place-requires-clause-within : goal.place-requires-clause-within
-place-requires-clause-within c = next_within _ _ c.requires _ (take_queue _ _ c.requires c.loop.queue c.loop.invariant.queue _ _ _ c.in-Some.ensures refl refl refl refl) _ (take_next _ _ c.requires c.loop.queue c.loop.invariant.queue _ _ _ c.loop.invariant.below c.in-Some.ensures refl refl)
+place-requires-clause-within c = first_within _ _ c.requires _ _ (c.loop.invariant.queue.ready_first _ _ c.in-Some.ensures.was)

@@ -1,4 +1,4 @@
-use Rattle.std.proofs.Common.{sym, ◌∙◌}
+use Rattle.std.proofs.Common.{◌∙◌}
 use Rattle.psc_groups.proofs.Steps.{last_ends}
 use Rattle.psc_groups.proofs.walk.last_of.Goals as goal
 

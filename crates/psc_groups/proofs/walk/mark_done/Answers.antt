@@ -1,4 +1,4 @@
-use Rattle.std.proofs.Common.{◌≡◌, ◌<◌, length, arith, rules, refl, get_or, slice_get, Some}
+use Rattle.std.proofs.Common.{◌≡◌, arith, rules, get_or, slice_get, Some}
 use Rattle.std.proofs.lemmas.Option.{slice_get-get_or}
 use Rattle.psc_groups.proofs.Steps.{marks_more, marks_skip}
 use Rattle.psc_groups.proofs.walk.mark_done.Goals as goal

@@ -1,4 +1,4 @@
-use Rattle.std.proofs.Common.{arith, ap, length, rules, ◌∙◌}
+use Rattle.std.proofs.Common.{arith, rules}
 use Rattle.psc_groups.proofs.Steps.{start_walks, seen_more, numbering}
 use Rattle.psc_groups.proofs.walk.number_groups.Goals as goal
 

@@ -1,6 +1,5 @@
-use Rattle.std.proofs.Common.{◌≡◌, ◌<◌, ℕ, length, slice_get, Some, get_or, refl, arith, rules}
+use Rattle.std.proofs.Common.{◌≡◌, ◌<◌, length, refl, arith, rules}
 use Rattle.std.proofs.lemmas.Option.{slice_get_read, slice_get-get_or}
-use Rattle.psc_groups.specs.Graph.{Mentions}
 use Rattle.psc_groups.proofs.Joining.{more_links, next_links}
 use Rattle.psc_groups.proofs.groups.Links.add_all.Goals as goal
 

@@ -1,4 +1,4 @@
-use Rattle.std.proofs.Common.{arith, rules, refl}
+use Rattle.std.proofs.Common.{arith, refl}
 use Rattle.psc_groups.proofs.Placing.{target_within, place_of, wait_queue, wait_stand, ready_queue, ready_stand}
 use Rattle.psc_groups.proofs.order.Queue.look_at.Goals as goal
 

@@ -1,4 +1,4 @@
-use Rattle.std.proofs.Common.{◌≡◌, ◌<◌, ⊥, length, refl, rules, arith, slice_get, get_or, Some}
+use Rattle.std.proofs.Common.{◌≡◌, ◌<◌, length, refl, rules}
 use Rattle.std.proofs.lemmas.Option.{slice_get-get_or}
 use Rattle.psc_groups.specs.Order.{IsPlaced}
 use Rattle.psc_groups.proofs.Placing.{stays_placed, place_queue, place_stand, looked_at, all_stand, when_true, when_false}

@@ -1,4 +1,4 @@
-use Rattle.std.proofs.Common.{◌≡◌, length, refl, ◌∙◌, arith, rules}
+use Rattle.std.proofs.Common.{◌≡◌, length, ◌∙◌, rules}
 use Rattle.psc_groups.proofs.Steps.{length_more}
 use Rattle.psc_groups.proofs.Maps.{none_ready}
 use Rattle.psc_groups.proofs.Placing.{zeros_more, none_more, new_more, started}

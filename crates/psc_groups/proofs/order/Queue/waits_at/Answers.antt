@@ -1,4 +1,4 @@
-use Rattle.std.proofs.Common.{◌<◌, length, refl, arith, rules}
+use Rattle.std.proofs.Common.{◌<◌, length, refl, arith}
 use Rattle.std.proofs.lemmas.Option.{slice_get_read}
 use Rattle.psc_groups.proofs.Placing.{mentioned_within, waits_told}
 use Rattle.psc_groups.proofs.order.Queue.waits_at.Goals as goal

@@ -1,4 +1,4 @@
-use Rattle.std.proofs.Common.{◌<◌, length, arith, refl, ap, ◌∙◌, sym, rules}
+use Rattle.std.proofs.Common.{◌<◌, length, arith, refl, rules}
 use Rattle.std.proofs.lemmas.Option.{slice_get_read}
 use Rattle.psc_groups.proofs.Lists.{within}
 use Rattle.psc_groups.proofs.Steps.{enter_walks, ages_set, entered_set}

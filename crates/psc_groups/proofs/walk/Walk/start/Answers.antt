@@ -1,4 +1,4 @@
-use Rattle.std.proofs.Common.{rules, ap, length}
+use Rattle.std.proofs.Common.{ap, length}
 use Rattle.psc_groups.proofs.Steps.{all_new_none, all_new_more, length_more}
 use Rattle.psc_groups.proofs.walk.Walk.start.Goals as goal
 

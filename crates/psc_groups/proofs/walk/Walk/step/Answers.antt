@@ -1,5 +1,4 @@
-use Rattle.std.proofs.Common.{◌≡◌, ◌<◌, ◌≤◌, length, arith, rules, sym, ◌∙◌, Some, ap}
-use Rattle.psc_groups.specs.declared.walk.Waiting.{Waiting}
+use Rattle.std.proofs.Common.{rules}
 use Rattle.psc_groups.proofs.Steps.{close_walks, close_ages, leads, join_walks, pass_done, pass_open, ends_as}
 use Rattle.psc_groups.proofs.walk.Walk.step.Goals as goal
 
