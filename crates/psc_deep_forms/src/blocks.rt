@@ -1,5 +1,8 @@
 //! Steps in `case`, right sides, local bindings and statements.
 
+ghost use Rattle.std.specs.Prelude.{◌≡◌};
+ghost use Rattle.psc_deep_forms.specs.Goals as spec;
+
 use crate::exprs::EXPR;
 use crate::goal::{Goal, Steps, Widths};
 use crate::read::{Reader, behind_name, tail};
@@ -16,7 +19,9 @@ fn begins_pattern(syms: &[Sym]) -> bool {
 
 impl Widths {
     /// Before the first alternative of a `case` with so many scrutinees.
-    fn of(scrutinees: usize) -> Widths {
+    fn of(scrutinees: usize) -> Widths
+        ensures { result ≡ spec.widths_of scrutinees }
+    {
         Widths {
             scrutinees,
             binders: 1,
@@ -24,7 +29,9 @@ impl Widths {
         }
     }
 
-    fn with_binder(self) -> Widths {
+    fn with_binder(self) -> Widths
+        ensures { result ≡ spec.with_binder self }
+    {
         Widths {
             scrutinees: self.scrutinees,
             binders: self.binders.saturating_add(1),
@@ -33,7 +40,9 @@ impl Widths {
     }
 
     /// Behind the binders of an alternative.
-    fn ended(self) -> Widths {
+    fn ended(self) -> Widths
+        ensures { result ≡ spec.ended self }
+    {
         Widths {
             scrutinees: self.scrutinees,
             binders: 1,

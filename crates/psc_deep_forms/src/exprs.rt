@@ -1,5 +1,8 @@
 //! Steps in chains of operands, calls, and the forms that begin with a keyword.
 
+ghost use Rattle.std.specs.Prelude.{◌≡◌};
+ghost use Rattle.psc_deep_forms.specs.Goals as spec;
+
 use crate::goal::{Goal, Holes, Steps};
 use crate::read::{Reader, tail, tail_if};
 use psc_lex::Sign;
@@ -10,7 +13,9 @@ use psc_parse_base::{Fault, Next, Sym, expect, peek, sees};
 pub(crate) const EXPR: Goal = Goal::Expr(Holes::Refused);
 
 /// What a further operand of a chain may be.
-fn further(holes: Holes) -> Holes {
+fn further(holes: Holes) -> Holes
+    ensures { result ≡ spec.further holes }
+{
     match holes {
         Holes::Refused => Holes::Refused,
         Holes::Allowed | Holes::Seen => Holes::Allowed,

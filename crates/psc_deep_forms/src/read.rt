@@ -1,5 +1,7 @@
 //! The stack of goals, and how a step puts goals on it.
 
+ghost use Rattle.std.specs.Prelude.{◌≡◌, ◌++◌, ◌<◌, ◌-◌, ◌∷◌, [], length, take, slice_get, IfOk};
+
 use crate::ahead::{Ahead, look_ahead};
 use crate::goal::Goal;
 use psc_lex::Sign;
@@ -25,7 +27,10 @@ impl Reader {
     }
 
     /// The next goal, taken off the stack.
-    pub(crate) fn next(&mut self) -> Option<Goal> {
+    pub(crate) fn next(&mut self) -> Option<Goal>
+        ensures last { result ≡ slice_get self.old.goals.items (length self.old.goals.items - 1) }
+        ensures rest { self.new.goals.items ≡ take (length self.old.goals.items - 1) self.old.goals.items }
+    {
         self.goals.pop()
     }
 
@@ -38,7 +43,9 @@ impl Reader {
     }
 
     /// The goal that comes next becomes another one.
-    pub(crate) fn replace_next(&mut self, goal: Goal) -> Result<(), Fault> {
+    pub(crate) fn replace_next(&mut self, goal: Goal) -> Result<(), Fault>
+        ensures next { IfOk result (λ _. self.new.goals.items ≡ take (length self.old.goals.items - 1) self.old.goals.items ++ goal ∷ []) }
+    {
         let _old = self.goals.pop();
         self.goals.push(goal)?;
         Ok(())
@@ -90,7 +97,9 @@ impl Reader {
 }
 
 /// What stands behind the first symbol.
-pub(crate) fn tail(syms: &[Sym]) -> Result<&[Sym], Fault> {
+pub(crate) fn tail(syms: &[Sym]) -> Result<&[Sym], Fault>
+    ensures shorter { IfOk result (λ rest. length rest.now < length syms.now) }
+{
     match syms {
         [_, rest @ ..] => Ok(rest),
         [] => Err(Fault::Grammar),

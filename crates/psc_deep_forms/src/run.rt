@@ -1,5 +1,8 @@
 //! The loop over the goals of an item.
 
+ghost use Rattle.std.specs.Prelude.{◌≡◌, IfOk};
+ghost use Rattle.psc_deep_forms.specs.Goals as spec;
+
 use crate::exprs::EXPR;
 use crate::goal::Goal;
 use crate::read::{Reader, behind_name};
@@ -147,14 +150,21 @@ impl Reader {
     }
 }
 
+/// What the end of the goals tells: a form was met, or none before the end or what is not of the grammar.
+fn answer(read: Result<(), Fault>) -> Result<bool, NoMemory>
+    ensures { IfOk result (λ found. found ≡ spec.is_form read) }
+{
+    match read {
+        Err(Fault::OutOfMemory) => Err(NoMemory),
+        Err(Fault::Outside) => Ok(true),
+        Err(Fault::Grammar) | Ok(()) => Ok(false),
+    }
+}
+
 /// Whether the grammar meets a form in the item that this compiler does not have, before anything that is not of the grammar.
 pub fn has_deep_form(alloc: Global, item: &[Sym]) -> Result<bool, NoMemory> {
     if sees(item, Sign::Import) {
         return Ok(false);
     }
-    match Reader::new(alloc, item)?.run(item) {
-        Err(Fault::OutOfMemory) => Err(NoMemory),
-        Err(Fault::Outside) => Ok(true),
-        Err(Fault::Grammar) | Ok(()) => Ok(false),
-    }
+    answer(Reader::new(alloc, item)?.run(item))
 }

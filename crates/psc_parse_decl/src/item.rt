@@ -155,7 +155,11 @@ impl Pieces {
     }
 
     /// Reads what is left of the module's block next: its next item, if there is one. What fails is that item.
-    fn read_next<'a>(&mut self, alloc: Global, left: Left<'a>) -> Result<Option<Left<'a>>, Failed<'a>>
+    fn read_next<'a>(
+        &mut self,
+        alloc: Global,
+        left: Left<'a>,
+    ) -> Result<Option<Left<'a>>, Failed<'a>>
         ensures place { IfErr result (λ failed. failed.item ≡ spec.next_of left) }
     {
         match left {
