@@ -1,0 +1,5 @@
+pub mod Trees
+pub mod Naming
+pub mod Adding
+pub mod Solving
+pub mod Reading
