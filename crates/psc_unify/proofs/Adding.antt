@@ -10,13 +10,15 @@ use Rattle.psc_graph.specs.declared.node.Node.TheVariants.{Atom, Join, Field}
 use Rattle.psc_graph.specs.declared.node.Leaf.TheVariants as leaf
 use Rattle.psc_graph.specs.declared.node.Former.TheVariants.{Apply}
 use Rattle.psc_graph.proofs.Trees.{kind-subst}
+use Rattle.psc_graph.proofs.PushLemmas.{grows_none, grows_more}
+use Rattle.psc_rows.specs.declared.graph.Graph.{Graph}
 use Rattle.psc_type.specs.declared.ty.Ty.{Ty}
 use Rattle.psc_type.specs.declared.ty.Ty.TheVariants as ty
 use Rattle.psc_unify.specs.declared.names.Constant.{Constant}
 use Rattle.psc_unify.specs.declared.tables.Names.{Names}
 use Rattle.psc_unify.specs.Naming.{Naming, IsResult}
 use Rattle.psc_unify.specs.Meaning.{tree, apply}
-use Rattle.psc_unify.specs.Solved.{Fits, Continues, Values, Means}
+use Rattle.psc_unify.specs.Solved.{Fits, Continues, Adds, Values, Means}
 use Rattle.psc_unify.proofs.Naming.{fits_before}
 use Rattle.psc_unify.proofs.Trees.{tree-Var, tree-Unknown, tree-App, tree-RowCons}
 
@@ -27,6 +29,12 @@ kind_at nodes list v k ready sol below =
     ap kind_of (ready.most.general v sol.solves k)
     ∙ kind-subst v nodes (ready.value k) sol.suits (ready.most.own k below)
     ∙ ready.kinds k (get_or list k None) (slice_get-get_or list k None inside)
+
+pub adds_none : (g : Graph) → Adds g g
+adds_none g = record { grows = grows_none g.nodes.items; ready = λ r. r }
+
+pub adds_more : (a b c : Graph) → Adds a b → Adds b c → Adds a c
+adds_more a b c p q = record { grows = grows_more a.nodes.items b.nodes.items c.nodes.items p.grows q.grows; ready = λ r. q.ready (p.ready r) }
 
 pub means_more : (names : Names) (old new : List Node) (unknowns : List ℕ) (t : Ty) (p : ℕ) → Grows old new → Means names old unknowns t p → Means names new unknowns t p
 means_more names old new unknowns t p g m = record { value = λ e h v fits sol values. m.value e h v fits (g.back v sol) values }

@@ -15,7 +15,7 @@ use Rattle.psc_type.specs.declared.ty.Ty.{Ty}
 use Rattle.psc_unify.specs.declared.tables.Names.{Names}
 use Rattle.psc_unify.specs.Naming.{Naming}
 use Rattle.psc_unify.specs.Meaning.{tree}
-use Rattle.psc_unify.specs.Solved.{Fits, Continues, Adds, Values, Means, AllEqual, IsSolutionOf, IsMostGeneralOf, Stands, HasNone}
+use Rattle.psc_unify.specs.Solved.{Fits, Continues, Adds, Values, Means, AllEqual, IsSolutionOf, IsMostGeneralOf, Stands, HasNone, ArePlain}
 use Rattle.psc_unify.proofs.Naming.{fits_before}
 
 pub values_agree : (g v w : ℕ → Tree) (n : ℕ) (unknowns : List ℕ) → ((x k : ℕ) → slice_get unknowns x ≡ Some k → k < n) → Agrees n v w → Values g v unknowns → Values g w unknowns
@@ -126,7 +126,7 @@ module _ (old new : Graph) (names : Names) (unknowns asked kinds : List ℕ) (eq
       same_kind : (s z : ℕ) → Free s ≡ Free z → s ≡ z
       same_kind s z q = cc
 
-module _ (g0 g1 g2 g3 : Graph) (n0 n1 n2 : Names) (unknowns kinds : List ℕ) (eqs : List (Ty × Ty)) (a b : Ty) (l r : ℕ)
+module _ (g0 g1 g2 : Graph) (n0 n1 n2 : Names) (unknowns kinds : List ℕ) (eqs : List (Ty × Ty)) (a b : Ty) (l r : ℕ)
     (c0 : Continues n0 n1) (c1 : Continues n1 n2) (add0 : Adds g0 g1) (add1 : Adds g1 g2)
     (st : Stands g0 n0 unknowns kinds eqs)
     (one : Means n1 g1.nodes.items unknowns a l) (two : Means n2 g2.nodes.items unknowns b r) where
@@ -166,8 +166,8 @@ module _ (g0 g1 g2 g3 : Graph) (n0 n1 n2 : Names) (unknowns kinds : List ℕ) (e
           ∙ sym (two.value e g w2.0 fits w2.2 v2);
       }
 
-  pub stands_equal : Steps (λ v. v l ≡ v r) g2.nodes.items g3.nodes.items g3.kinds.items [] [] → Stands g3 n2 unknowns kinds ((a, b) ∷ eqs)
-  stands_equal steps = record {
+  pub stands_equal : (g3 : Graph) → Steps (λ v. v l ≡ v r) g2.nodes.items g3.nodes.items g3.kinds.items [] [] → Stands g3 n2 unknowns kinds ((a, b) ∷ eqs)
+  stands_equal g3 steps = record {
     ready = steps.ready;
     count = st.count;
     inside = λ x k e. (let h = inside2 x k e in let more = steps.longer in omega arith);
@@ -208,3 +208,19 @@ most_general graph names unknowns kinds eqs st e fits =
           let w = st.complete e fits g one in
           (w.0, λ x s h. w.2.at x (get_or unknowns x 0) (at x s h) ∙ st.ready.most.general w.0 w.1.solves (get_or unknowns x 0));
     }
+
+-- what was written and taken back in a graph does not matter
+pub stands_graph : (g h : Graph) (names : Names) (unknowns kinds : List ℕ) (eqs : List (Ty × Ty)) → h.nodes ≡ g.nodes → h.kinds ≡ g.kinds → Stands g names unknowns kinds eqs → Stands h names unknowns kinds eqs
+stands_graph g h names unknowns kinds eqs nodes list s =
+    let is = ap (λ v. v.items) nodes in
+    record {
+      ready = rw (is, ap (λ v. v.items) list) s.ready;
+      count = s.count;
+      inside = λ x k e. rw is (s.inside x k e);
+      kind = λ x k t e f v sol. s.kind x k t e f v (rw is at sol);
+      sound = λ e fits g v sol values. s.sound e fits g v (rw is at sol) values;
+      complete = λ e fits g sol. let w = s.complete e fits g sol in (w.0, rw is w.1, w.2);
+    }
+
+pub plain_slice : (s t : List ℕ) (a b : Ty) → t ≡ s → ArePlain s a b → ArePlain t a b
+plain_slice s t a b e h = rw e h

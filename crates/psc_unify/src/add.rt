@@ -58,8 +58,8 @@ fn push_rigid(graph: &mut Graph, names: &mut Names, name: &Ident) -> Result<usiz
 /// solver made itself.
 pub fn known_place(graph: &Graph, unknowns: &[usize], unknown: u64) -> Option<usize>
     ensures inside { IfSome result (λ r. r < length graph.now.nodes.items) }
-    ensures place { unknown < length unknowns.now → IfSome result (λ r. slice_get unknowns.now unknown ≡ Some r) }
-    ensures named { IfSome result (λ r. r ≡ place_of unknowns.now unknown) }
+    ensures known { unknown < length unknowns.now → IfSome result (λ r. slice_get unknowns.now unknown ≡ Some r) }
+    ensures place { IfSome result (λ r. r ≡ place_of unknowns.now unknown) }
 {
     let place = match unknowns.get(unknown as usize).copied() {
         Some(place) => place,
@@ -73,7 +73,7 @@ pub fn known_place(graph: &Graph, unknowns: &[usize], unknown: u64) -> Option<us
 }
 
 /// The place of an unknown. One that is not of this solver gets a node that no value shows.
-fn place_of(graph: &mut Graph, unknowns: &[usize], unknown: u64) -> Result<usize, NoMemory>
+fn place_in(graph: &mut Graph, unknowns: &[usize], unknown: u64) -> Result<usize, NoMemory>
     ensures adds { OnOk result (Adds graph.old graph.new) }
     ensures inside { IfOk result (λ r. r < length graph.new.nodes.items) }
     ensures place { unknown < length unknowns.now → IfOk result (λ r. slice_get unknowns.now unknown ≡ Some r) }
@@ -222,54 +222,60 @@ pub fn add_type(
 {
     match ty {
         Ty::Var(name) => {
-            let place = add_variable(graph, names, binders.as_slice(), name)?;
-            Ok(place)
+            let variable = add_variable(graph, names, binders.as_slice(), name)?;
+            Ok(variable)
         }
         Ty::Unknown(number) => {
-            let place = place_of(graph, unknowns, *number)?;
-            Ok(place)
+            let unknown = place_in(graph, unknowns, *number)?;
+            Ok(unknown)
         }
         Ty::Con(name) => {
-            let place = push_constant(graph, names, Constant::Con(name.clone()?), STAR)?;
-            Ok(place)
+            let constructor = push_constant(graph, names, Constant::Con(name.clone()?), STAR)?;
+            Ok(constructor)
         }
         Ty::App(function, argument) => {
             let left = add_type(graph, names, unknowns, binders, function.get())?;
             let right = add_type(graph, names, unknowns, binders, argument.get())?;
-            let place = push_application(graph, names, left, right)?;
-            Ok(place)
+            let application = push_application(graph, names, left, right)?;
+            Ok(application)
         }
         Ty::Forall(name, kind, body) => {
             binders.push(name.clone()?)?;
             let inner = add_type(graph, names, unknowns, binders, body.get())?;
             binders.pop();
-            let place = push_forall(graph, names, kind, inner)?;
-            Ok(place)
+            let forall = push_forall(graph, names, kind, inner)?;
+            Ok(forall)
         }
         Ty::Given(constraint, body) => {
             let inner = add_type(graph, names, unknowns, binders, body.get())?;
-            let arguments = add_arguments(graph, names, unknowns, binders, constraint.args.as_slice())?;
-            let place = push_given(graph, names, &constraint.class, arguments, inner)?;
-            Ok(place)
+            let arguments = add_arguments(
+                graph,
+                names,
+                unknowns,
+                binders,
+                constraint.args.as_slice(),
+            )?;
+            let given = push_given(graph, names, &constraint.class, arguments, inner)?;
+            Ok(given)
         }
         Ty::RowCons(label, head, rest) => {
-            let left = add_type(graph, names, unknowns, binders, head.get())?;
-            let right = add_type(graph, names, unknowns, binders, rest.get())?;
-            let place = push_field(graph, names, label, left, right)?;
-            Ok(place)
+            let first = add_type(graph, names, unknowns, binders, head.get())?;
+            let others = add_type(graph, names, unknowns, binders, rest.get())?;
+            let row = push_field(graph, names, label, first, others)?;
+            Ok(row)
         }
         Ty::RowNil => {
-            let place = push_constant(graph, names, Constant::EmptyRow, ROW)?;
-            Ok(place)
+            let empty = push_constant(graph, names, Constant::EmptyRow, ROW)?;
+            Ok(empty)
         }
         Ty::Symbol(text) => {
             let kind = names.kind(&Kind::Sym)?;
-            let place = push_constant(graph, names, Constant::Symbol(text.clone()?), kind)?;
-            Ok(place)
+            let symbol = push_constant(graph, names, Constant::Symbol(text.clone()?), kind)?;
+            Ok(symbol)
         }
         Ty::Any(kind) => {
-            let place = push_any(graph, names, kind)?;
-            Ok(place)
+            let any = push_any(graph, names, kind)?;
+            Ok(any)
         }
     }
 }
@@ -291,7 +297,8 @@ fn add_arguments(
     let mut place = push(graph, Node::Atom(Leaf::NoArgument))?;
     for argument in arguments {
         let head = add_type(graph, names, unknowns, binders, argument)?;
-        place = push(graph, Node::Join(Former::Argument, head, place))?;
+        let next = push(graph, Node::Join(Former::Argument, head, place))?;
+        place = next;
     }
     Ok(place)
 }

@@ -25,8 +25,9 @@ pub fn relate(
     ensures solved { result ≡ Ok true → ArePlain unknowns.now a.now b.now → (kinds : List ℕ) (eqs : List (Ty × Ty)) → Stands graph.old names.old unknowns.now kinds eqs → Stands graph.new names.new unknowns.now kinds ((a.now, b.now) ∷ eqs) }
     ensures clash { result ≡ Ok false → ArePlain unknowns.now a.now b.now → (kinds : List ℕ) (eqs : List (Ty × Ty)) → Stands graph.old names.old unknowns.now kinds eqs → HasNone names.new kinds ((a.now, b.now) ∷ eqs) }
 {
-    let left = add_type(graph, names, unknowns, &mut Vec::new(alloc), a)?;
-    let right = add_type(graph, names, unknowns, &mut Vec::new(alloc), b)?;
+    let mut binders = Vec::new(alloc);
+    let left = add_type(graph, names, unknowns, &mut binders, a)?;
+    let right = add_type(graph, names, unknowns, &mut binders, b)?;
     match make_equal(alloc, graph, left, right) {
         Ok(()) => Ok(true),
         Err(Stop::Clash) => Ok(false),

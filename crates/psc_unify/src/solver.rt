@@ -1,9 +1,9 @@
 // The solver's calls. After want of memory it is spent; after a clash it answers that clash.
 
-ghost use Rattle.std.specs.Prelude.{◌≡◌, ℕ, List, [], ◌∷◌, ◌++◌, length, Option, None, Some, OnOk, IfOk, Ok, Err, true, false};
+ghost use Rattle.std.specs.Prelude.{◌≡◌, ℕ, ◌<◌, List, [], ◌∷◌, ◌++◌, length, Option, None, Some, OnOk, IfOk, Ok, Err, true, false};
 ghost use Rattle.psc_type.specs.declared.ty.Ty.{Ty};
 ghost use Rattle.psc_unify.specs.Solved.{Stands, HasNone, ArePlain, Continues};
-ghost use Rattle.psc_unify.specs.Promise.{IsSolved, IsUnsolvable, ArePlainIn};
+ghost use Rattle.psc_unify.specs.Promise.{IsSolved, IsUnsolvable, ArePlainIn, IsValue};
 
 use crate::equate::{narrow_bound, relate};
 use crate::names::Constant;
@@ -86,14 +86,15 @@ fn add_equation(alloc: Global, state: &mut State, a: &Ty, b: &Ty) -> Result<Ende
     let length = state.graph.nodes.len();
     state.graph.writes.clear();
     state.bounds.keep();
-    if !relate(
+    let solved = relate(
         alloc,
         &mut state.graph,
         &mut state.names,
         state.unknowns.as_slice(),
         a,
         b,
-    )? {
+    )?;
+    if !solved {
         take_back(state, length);
         return Ok(Ended::Clashed);
     }
@@ -193,14 +194,14 @@ impl Solver {
         a: &Ty,
         b: &Ty,
         scopes_only: bool,
-    ) -> Result<Result<(), Clash>, NoMemory>
-        ensures clash { IfOk result (λ answer. (clash : Clash) × (answer ≡ Err clash) × (clash.scopes_only ≡ scopes_only)) }
-        ensures names { self.new.state ≡ self.old.state }
+    ) -> Result<Clash, NoMemory>
+        ensures clash { IfOk result (λ clash. clash.scopes_only ≡ scopes_only) }
+        ensures state { self.new.state ≡ self.old.state }
     {
         let clash = clash_of(alloc, &self.state, a, b, scopes_only)?;
         let copy = copy_clash(&clash)?;
         self.clash = Some(clash);
-        Ok(Err(copy))
+        Ok(copy)
     }
 
     fn try_equate(&mut self, alloc: Global, a: &Ty, b: &Ty) -> Result<Result<(), Clash>, NoMemory>
@@ -210,10 +211,17 @@ impl Solver {
         if let Some(clash) = &self.clash {
             return Ok(Err(copy_clash(clash)?));
         }
-        match add_equation(alloc, &mut self.state, a, b)? {
+        let ended = add_equation(alloc, &mut self.state, a, b)?;
+        match ended {
             Ended::Solved => Ok(Ok(())),
-            Ended::Clashed => self.refuse(alloc, a, b, false),
-            Ended::Escaped => self.refuse(alloc, a, b, true),
+            Ended::Clashed => {
+                let clash = self.refuse(alloc, a, b, false)?;
+                Ok(Err(clash))
+            }
+            Ended::Escaped => {
+                let clash = self.refuse(alloc, a, b, true)?;
+                Ok(Err(clash))
+            }
         }
     }
 
@@ -233,13 +241,17 @@ impl Solver {
     }
 
     /// The value of an unknown in a most general solution of the equations so far.
-    pub fn value(&self, alloc: Global, unknown: u64) -> Result<Ty, NoMemory> {
+    pub fn value(&self, alloc: Global, unknown: u64) -> Result<Ty, NoMemory>
+        ensures { IfOk result (λ ty. (kinds : List ℕ) (eqs : List (Ty × Ty)) → IsSolved self.now kinds eqs → unknown < length kinds → IsValue self.now unknown ty) }
+    {
         if self.is_spent {
             return Err(NoMemory);
         }
-        match self.state.known_place(unknown) {
-            Some(place) => Reader::new(alloc).read(alloc, &self.state, place),
-            None => Ok(Ty::Unknown(unknown)),
-        }
+        let Some(place) = self.state.known_place(unknown) else {
+            return Ok(Ty::Unknown(unknown));
+        };
+        let mut reader = Reader::new(alloc);
+        let ty = reader.read(alloc, &self.state, place)?;
+        Ok(ty)
     }
 }

@@ -1,5 +1,5 @@
 // What a solver has: the graph, the scopes of its unknowns, and the names of what stands in it.
-ghost use Rattle.std.specs.Prelude.{◌≡◌, ℕ, List, [], ◌∷◌, ◌++◌, length, OnOk, IfOk, IfSome, true};
+ghost use Rattle.std.specs.Prelude.{◌≡◌, ℕ, ◌<◌, List, [], ◌∷◌, ◌++◌, length, OnOk, IfOk, IfSome, true, slice_get, Some};
 ghost use Rattle.psc_type.specs.declared.ty.Ty.{Ty};
 ghost use Rattle.psc_unify.specs.Solved.{Stands, Continues};
 ghost use Rattle.psc_unify.specs.Reading.{place_of};
@@ -58,18 +58,23 @@ impl State {
         ensures { IfOk result (λ state. Stands state.graph state.names state.unknowns.items [] []) }
     {
         let names = Names::new(alloc)?;
+        let graph = Graph::new(alloc);
+        let unknowns = Vec::new(alloc);
         Ok(State {
-            graph: Graph::new(alloc),
+            graph,
             scopes: ScopeTable::new(alloc),
             bounds: Bounds::new(alloc),
             names,
-            unknowns: Vec::new(alloc),
+            unknowns,
             numbers: BTreeMap::new(alloc),
         })
     }
 
     /// The place of an unknown of this solver.
-    pub fn known_place(&self, unknown: u64) -> Option<usize> {
+    pub fn known_place(&self, unknown: u64) -> Option<usize>
+        ensures known { unknown < length self.now.unknowns.items → IfSome result (λ place. slice_get self.now.unknowns.items unknown ≡ Some place) }
+        ensures place { IfSome result (λ place. place ≡ place_of self.now.unknowns.items unknown) }
+    {
         known_place(&self.graph, self.unknowns.as_slice(), unknown)
     }
 
