@@ -1,9 +1,9 @@
 -- A binding, as one statement for each of its clauses.
-use Rattle.std.proofs.Common.{◌≡◌, ℕ, List, Option, Some, slice_get, slice_set, length, length-set, ◌<◌, ap, refl, sym, ◌∙◌, inl, inr}
+use Rattle.std.proofs.Common.{◌≡◌, ℕ, List, Option, Some, slice_get, slice_set, length, length-set, ◌<◌, ap, sym, ◌∙◌, inl, inr}
 use Rattle.std.proofs.lemmas.Option.{slice_get_within}
 use Rattle.psc_graph.specs.Tree.{Tree, Lacks, subst}
 use Rattle.psc_graph.specs.Model.{Solves, HasHoles}
-use Rattle.psc_graph.specs.General.{IsMostGeneral, IsReady, IsSolution, Suits, kind_of}
+use Rattle.psc_graph.specs.General.{IsReady, IsSolution, kind_of}
 use Rattle.psc_graph.specs.declared.node.Node.{Node}
 use Rattle.psc_graph.specs.declared.node.Node.TheVariants.{Free, Link}
 use Rattle.psc_graph.proofs.Writes.{before_write}

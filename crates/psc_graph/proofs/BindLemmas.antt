@@ -1,9 +1,9 @@
 -- A free node is linked to another: what that does to the solutions, and to the most general one.
-use Rattle.std.proofs.Common.{◌≡◌, ℕ, cond, List, Option, Some, slice_get, slice_set, length, length-set, ◌<◌, ap, refl, sym, ◌∙◌, inl, inr, eqb, ne_eqb, eq-eqb, subst as transport, arith}
+use Rattle.std.proofs.Common.{◌≡◌, ℕ, cond, List, Some, slice_get, slice_set, length, length-set, ◌<◌, ap, refl, sym, ◌∙◌, inl, inr, eqb, ne_eqb, eq-eqb, subst as transport, arith}
 use Rattle.std.proofs.lemmas.Bool.Decides.{eqb_tells}
-use Rattle.psc_graph.specs.Tree.{Tree, Hole, TAtom, TJoin, TField, put, subst, Lacks, count}
+use Rattle.psc_graph.specs.Tree.{Tree, Hole, TAtom, TJoin, TField, subst, Lacks, count}
 use Rattle.psc_graph.specs.Model.{Solves, Meets, IsClosed, IsInside, IsOwn}
-use Rattle.psc_graph.specs.General.{IsMostGeneral, IsReady, IsSolution, Suits, kind_of}
+use Rattle.psc_graph.specs.General.{IsMostGeneral, IsSolution, Suits, kind_of}
 use Rattle.psc_graph.specs.declared.node.Node.{Node}
 use Rattle.psc_graph.specs.declared.node.Node.TheVariants.{Free, Link, Atom, Join, Field}
 use Rattle.psc_graph.proofs.Writes.{after_write, before_write, written}

@@ -3,7 +3,7 @@ use Rattle.std.proofs.Common.{◌≡◌, ℕ, List, Option, Some, length, length
 use Rattle.std.proofs.lemmas.Option.{slice_get_within}
 use Rattle.psc_graph.specs.Tree.{Tree, Hole, TAtom, TJoin, TField}
 use Rattle.psc_graph.specs.Model.{Solves, Follows, Meets, IsOwn}
-use Rattle.psc_graph.specs.General.{IsMostGeneral, IsReady, IsSolution, Suits}
+use Rattle.psc_graph.specs.General.{IsReady, IsSolution}
 use Rattle.psc_graph.specs.declared.node.Node.{Node}
 use Rattle.psc_graph.specs.declared.node.Node.TheVariants.{Free, Link}
 use Rattle.psc_graph.proofs.Writes.{after_write, before_write, written}

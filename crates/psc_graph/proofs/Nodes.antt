@@ -1,6 +1,6 @@
 -- What a node says of the values of a solution.
-use Rattle.std.proofs.Common.{◌≡◌, ℕ, ◌+◌, List, Some, slice_get, ap, ◌∙◌, refl, cond, eqb, ne_eqb, sym, arith}
-use Rattle.psc_graph.specs.Tree.{Tree, Hole, TAtom, TJoin, put, size, count, Lacks}
+use Rattle.std.proofs.Common.{◌≡◌, ℕ, ◌+◌, List, Some, slice_get, ap, ◌∙◌, refl, ne_eqb, arith}
+use Rattle.psc_graph.specs.Tree.{Tree, TJoin, put, size, count, Lacks}
 use Rattle.psc_graph.specs.Model.{Solves, Follows, HasHoles}
 use Rattle.psc_graph.specs.declared.node.Node.{Node}
 use Rattle.psc_graph.specs.declared.node.Former.{Former}

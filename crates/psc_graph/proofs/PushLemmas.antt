@@ -1,10 +1,10 @@
 -- A node is added at the end.
 use Rattle.std.proofs.Common.{◌≡◌, ℕ, ◌<◌, ◌≤◌, ◌+◌, false, cond, List, [], ◌∷◌, ◌++◌, length, length-append, Option, Some, None, slice_get, get_or, ap, refl, sym, ◌∙◌, inl, inr, eqb, ne_eqb, eq-eqb, zero, suc, arith}
-use Rattle.std.proofs.lemmas.Option.{slice_get_within, get_or_from_slice_get}
+use Rattle.std.proofs.lemmas.Option.{slice_get_within}
 use Rattle.std.proofs.lemmas.Bool.Decides.{eqb_tells}
 use Rattle.psc_graph.specs.Tree.{Tree, Hole, TAtom, TJoin, TField, put, subst}
 use Rattle.psc_graph.specs.Model.{Solves, Meets, IsClosed, IsInside, IsOwn}
-use Rattle.psc_graph.specs.General.{IsMostGeneral, IsReady, IsSolution, Suits, Agrees, Grows, kind_of, node_kind, join_kind, row_kind}
+use Rattle.psc_graph.specs.General.{IsMostGeneral, IsReady, Suits, Agrees, Grows, kind_of, node_kind, join_kind, row_kind}
 use Rattle.psc_graph.specs.declared.node.Node.{Node}
 use Rattle.psc_graph.specs.declared.node.Node.TheVariants.{Free, Link, Atom, Join, Field}
 use Rattle.psc_graph.proofs.Writes.{after_push, before_push, pushed}

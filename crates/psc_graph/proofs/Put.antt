@@ -1,5 +1,5 @@
 -- A field is put into a row: where it comes to stand, and that different labels commute.
-use Rattle.std.proofs.Common.{ℕ, ◌≡◌, ◌≤◌, ◌<◌, cond, leb, Bool, true, false, ap, refl, sym, ◌∙◌, ◌⊎◌, ◌≢◌, inl, inr, arith}
+use Rattle.std.proofs.Common.{ℕ, ◌≡◌, ◌≤◌, ◌<◌, leb, true, false, ap, refl, sym, ◌∙◌, ◌⊎◌, ◌≢◌, inl, inr, arith}
 use Rattle.std.proofs.lemmas.Bool.{leb-true, le-leb, leb-false}
 use Rattle.std.proofs.lemmas.Bool.Decides.{leb_tells}
 use Rattle.psc_graph.specs.Tree.{Tree, Hole, TAtom, TJoin, TField, put}

@@ -1,9 +1,9 @@
 -- Trees: what `put` and `subst` leave as it is.
-use Rattle.std.proofs.Common.{ℕ, ◌≡◌, ◌+◌, ◌≤◌, ◌<◌, cond, leb, eqb, zero, suc, Bool, true, false, Option, Some, None, List, slice_get, ap, refl, sym, ◌∙◌, ◌⊎◌, inl, inr, arith}
+use Rattle.std.proofs.Common.{ℕ, ◌≡◌, ◌+◌, zero, suc, Option, Some, None, List, slice_get, ap, refl, sym, ◌∙◌, inl, inr, arith}
 use Rattle.std.proofs.lemmas.Bool.Decides.{leb_tells, eqb_tells}
 use Rattle.psc_graph.specs.Tree.{Tree, Hole, TAtom, TJoin, TField, put, size, count, Lacks, subst}
 use Rattle.psc_graph.specs.Model.{IsOwn}
-use Rattle.psc_graph.specs.General.{kind_of, row_kind, join_kind, both, Suits}
+use Rattle.psc_graph.specs.General.{kind_of, row_kind, join_kind, Suits}
 use Rattle.psc_graph.specs.declared.node.Node.{Node}
 use Rattle.psc_graph.specs.declared.node.Node.TheVariants.{Free}
 use Rattle.psc_graph.proofs.Put.{put_at, put_past, put-put}

@@ -1,8 +1,8 @@
 -- A walk over the nodes: what was seen by its end has no part that is the root.
-use Rattle.std.proofs.Common.{◌≡◌, ℕ, ◌<◌, ◌≤◌, ◌+◌, Bool, true, false, ◌||◌, eqb, List, [], ◌∷◌, ◌++◌, ◌⊎◌, inl, inr, slice_get, Some, None, Option, zero, suc, ap, refl, sym, ◌∙◌, arith, eq-eqb}
+use Rattle.std.proofs.Common.{◌≡◌, ℕ, ◌<◌, ◌≤◌, Bool, true, false, ◌||◌, eqb, List, [], ◌∷◌, ◌++◌, ◌⊎◌, inl, inr, slice_get, Some, zero, suc, ap, refl, sym, ◌∙◌, arith, eq-eqb}
 use Rattle.std.proofs.lemmas.Bool.Decides.{eqb_tells}
 use Rattle.psc_graph.specs.Tree.{Tree, size, count, Lacks}
-use Rattle.psc_graph.specs.Model.{Solves, Follows, HasHoles}
+use Rattle.psc_graph.specs.Model.{Solves, HasHoles}
 use Rattle.psc_graph.specs.Explore.{Has, Reaches, IsExplored, Explored, Visited, AllWithin, parts_of}
 use Rattle.psc_graph.specs.declared.node.Node.{Node}
 use Rattle.psc_graph.specs.declared.node.Node.TheVariants.{Free, Link, Atom, Join, Field}

@@ -1,4 +1,6 @@
 // Kinds by number. All kinds of rows count as one, which has the number 0.
+ghost use Rattle.std.specs.Prelude.{◌≡◌, OnOk, IfSome, slice_get, Some};
+ghost use Rattle.psc_unify.specs.Naming.{Extends, IsResult};
 
 use psc_items::Shared;
 use psc_text::NoMemory;
@@ -14,8 +16,8 @@ pub const STAR: u64 = 1;
 /// Kinds, each once, with the number of the kind that an application of such a type has.
 #[derive(Drop)]
 pub struct KindTable {
-    kinds: Vec<Kind>,
-    results: Vec<u64>,
+    pub kinds: Vec<Kind>,
+    pub results: Vec<u64>,
 }
 
 /// Whether two kinds are one, where all kinds of rows count as one.
@@ -57,7 +59,10 @@ impl KindTable {
     }
 
     /// The number of a kind, which is a new one for a new kind.
-    pub fn number(&mut self, kind: &Kind) -> Result<u64, NoMemory> {
+    pub fn number(&mut self, kind: &Kind) -> Result<u64, NoMemory>
+        ensures kinds { OnOk result (Extends self.old.kinds.items self.new.kinds.items) }
+        ensures results { OnOk result (Extends self.old.results.items self.new.results.items) }
+    {
         if let Some(number) = self.find(kind) {
             return Ok(number);
         }
@@ -71,19 +76,21 @@ impl KindTable {
         Ok(number)
     }
 
-    /// The kind of an application of a type of this kind: `Type` where it is no arrow.
-    pub fn result(&self, kind: Option<u64>) -> u64 {
+    /// The kind of an application of a type of this kind: `Type` where it is no arrow, and where the
+    /// type has no kind. None for a number that is no kind's.
+    pub fn result(&self, kind: Option<u64>) -> Option<u64>
+        ensures { IfSome result (λ r. IsResult self.now.results.items kind r) }
+    {
         match kind {
-            None => STAR,
-            Some(number) => self.results.get(number as usize).copied().unwrap_or(STAR),
+            None => Some(STAR),
+            Some(number) => self.results.get(number as usize).copied(),
         }
     }
 
     /// The kind with a number.
-    pub fn kind(&self, number: u64) -> Result<Kind, NoMemory> {
-        match self.kinds.get(number as usize) {
-            Some(kind) => Ok(kind.clone()?),
-            None => Ok(Kind::Star),
-        }
+    pub fn kind(&self, number: u64) -> Option<&Kind>
+        ensures { IfSome result (λ kind. slice_get self.now.kinds.items number ≡ Some kind.now) }
+    {
+        self.kinds.get(number as usize)
     }
 }

@@ -6,11 +6,13 @@
 #![tactic(auto)]
 
 mod add;
+mod equate;
 mod kinds;
 mod names;
 mod read;
 mod solver;
 mod state;
+mod tables;
 
 pub use solver::{Clash, Solver, TypeKind};
 

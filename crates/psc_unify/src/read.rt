@@ -1,8 +1,14 @@
-// Types read back from the graph. What is shared in the graph is shared in the type.
+// Types read back from the graph. What is shared in the graph is shared in the type. Values have no
+// binders, so the refusals of nodes that stand under binders alone never come.
+ghost use Rattle.std.specs.Prelude.{◌≡◌, ℕ, OnOk, IfOk};
+ghost use Rattle.psc_graph.specs.General.{IsReady};
+ghost use Rattle.psc_unify.specs.declared.state.State.{State};
+ghost use Rattle.psc_unify.specs.Reading.{Reads, AllRead, IsLeafOf, IsJoinOf, IsFieldOf};
 
+use crate::add::kind_at;
 use crate::names::Constant;
 use crate::state::{State, no_memory};
-use psc_graph::{Leaf, Node, find};
+use psc_graph::{Former, Leaf, Node, find, node_at};
 use psc_items::{Shared, SharedItems};
 use psc_text::NoMemory;
 use psc_type::{Constraint, Ty};
@@ -13,7 +19,7 @@ use std::collections::BTreeMap;
 #[derive(Clone, Copy)]
 enum Visit {
     Enter(usize),
-    Leave(usize, usize, usize),
+    Leave(usize),
 }
 
 /// The types that were read, by place.
@@ -22,45 +28,120 @@ pub struct Reader {
     done: BTreeMap<usize, Shared<Ty>>,
 }
 
-fn read_constant(state: &State, number: u64) -> Result<Ty, NoMemory> {
-    match state.constants.get(number) {
-        Some(Constant::Con(name)) => Ok(Ty::Con(name.clone()?)),
-        Some(Constant::Symbol(text)) => Ok(Ty::Symbol(text.clone()?)),
-        Some(Constant::EmptyRow) => Ok(Ty::RowNil),
-        Some(Constant::Any(kind)) => Ok(Ty::Any(state.kinds.kind(*kind)?)),
-        None => Ok(Ty::RowNil),
+fn read_constant(state: &State, number: u64, kind: u64) -> Result<Ty, NoMemory>
+    ensures { IfOk result (λ ty. IsLeafOf state.now ty (Leaf.Constant number kind)) }
+{
+    let Some(row) = state.names.constants.get(number) else {
+        return Err(NoMemory);
+    };
+    if row.1 != kind {
+        return Err(NoMemory);
+    }
+    match &row.0 {
+        Constant::Con(name) => Ok(Ty::Con(name.clone()?)),
+        Constant::Symbol(text) => Ok(Ty::Symbol(text.clone()?)),
+        Constant::EmptyRow => Ok(Ty::RowNil),
+        Constant::Any(kind) => {
+            let Some(kind) = state.names.kinds.kind(*kind) else {
+                return Err(NoMemory);
+            };
+            Ok(Ty::Any(kind.clone()?))
+        }
     }
 }
 
-fn read_leaf(state: &State, leaf: Leaf) -> Result<Ty, NoMemory> {
+fn read_rigid(state: &State, number: u64, kind: u64) -> Result<Ty, NoMemory>
+    ensures { IfOk result (λ ty. IsLeafOf state.now ty (Leaf.Rigid number kind)) }
+{
+    let Some(row) = state.names.rigids.get(number) else {
+        return Err(NoMemory);
+    };
+    if row.1 != kind {
+        return Err(NoMemory);
+    }
+    Ok(Ty::Var(row.0.clone()?))
+}
+
+/// The type of a leaf. Values have no bound variable and no argument list.
+fn read_leaf(state: &State, leaf: Leaf) -> Result<Ty, NoMemory>
+    ensures { IfOk result (λ ty. IsLeafOf state.now ty leaf) }
+{
     match leaf {
-        Leaf::Rigid(number, _) => match state.rigids.get(number) {
-            Some(name) => Ok(Ty::Var(name.clone()?)),
-            None => Ok(Ty::RowNil),
-        },
-        Leaf::Constant(number, _) => read_constant(state, number),
-        Leaf::Bound(_) | Leaf::NoArgument => Ok(Ty::RowNil),
+        Leaf::Rigid(number, kind) => read_rigid(state, number, kind),
+        Leaf::Constant(number, kind) => read_constant(state, number, kind),
+        Leaf::Bound(_) | Leaf::NoArgument => Err(NoMemory),
+    }
+}
+
+fn read_unknown(state: &State, place: usize) -> Result<Ty, NoMemory>
+    ensures { IfOk result (λ ty. Reads state.now ty place) }
+{
+    match state.number_at(place) {
+        Some(number) => Ok(Ty::Unknown(number)),
+        None => Err(NoMemory),
+    }
+}
+
+/// The application of what was read. Its kind is that which its head's kind gives.
+fn read_join(
+    state: &State,
+    former: Former,
+    left: usize,
+    one: Shared<Ty>,
+    two: Shared<Ty>,
+) -> Result<Ty, NoMemory>
+    ensures { IfOk result (λ ty. IsJoinOf state.now ty former left one two) }
+{
+    let Former::Apply(kind) = former else {
+        return Err(NoMemory);
+    };
+    if left >= state.graph.nodes.len() {
+        return Err(NoMemory);
+    }
+    match state.names.kinds.result(kind_at(&state.graph, left)) {
+        Some(result) => if result == kind { Ok(Ty::App(one, two)) } else { Err(NoMemory) },
+        None => Err(NoMemory),
+    }
+}
+
+fn read_field(
+    state: &State,
+    label: u64,
+    one: Shared<Ty>,
+    two: Shared<Ty>,
+) -> Result<Ty, NoMemory>
+    ensures { IfOk result (λ ty. IsFieldOf state.now ty label one two) }
+{
+    match state.names.labels.get(label) {
+        Some(name) => Ok(Ty::RowCons(name.clone()?, one, two)),
+        None => Err(NoMemory),
     }
 }
 
 impl Reader {
-    pub fn new(alloc: Global) -> Reader {
+    pub fn new(alloc: Global) -> Reader
+        ensures { (state : State) → AllRead state result }
+    {
         Reader {
             done: BTreeMap::new(alloc),
         }
     }
 
-    fn keep(&mut self, alloc: Global, place: usize, ty: Ty) -> Result<(), NoMemory> {
+    fn keep(&mut self, alloc: Global, place: usize, ty: Ty) -> Result<(), NoMemory>
+        ensures { OnOk result ((state : State) → Reads state ty place → AllRead state self.old → AllRead state self.new) }
+    {
         self.done.insert(place, Shared::new(alloc, ty)?)?;
         Ok(())
     }
 
     /// What was read at the end of a place's links.
-    fn part(&self, alloc: Global, state: &State, at: usize) -> Result<Shared<Ty>, NoMemory> {
+    fn part(&self, state: &State, at: usize) -> Result<Shared<Ty>, NoMemory>
+        ensures { IfOk result (λ ty. AllRead state.now self.now → Reads state.now ty at) }
+    {
         let (end, _) = find(state.graph.nodes.as_slice(), at).map_err(no_memory)?;
         match self.done.get(&end) {
             Some(ty) => Ok(ty.clone()?),
-            None => Ok(Shared::new(alloc, Ty::RowNil)?),
+            None => Err(NoMemory),
         }
     }
 
@@ -70,23 +151,25 @@ impl Reader {
         state: &State,
         work: &mut Vec<Visit>,
         at: usize,
-    ) -> Result<(), NoMemory> {
+    ) -> Result<(), NoMemory>
+        ensures { OnOk result (AllRead state.now self.old → AllRead state.now self.new) }
+    {
         let (end, node) = find(state.graph.nodes.as_slice(), at).map_err(no_memory)?;
         if self.done.contains_key(&end) {
             return Ok(());
         }
         match node {
-            Node::Free(_) | Node::Link(_) => self.keep(
-                alloc,
-                end,
-                Ty::Unknown(state.number_at(end)),
-            ),
+            Node::Free(_) => {
+                let ty = read_unknown(state, end)?;
+                self.keep(alloc, end, ty)
+            }
+            Node::Link(_) => Err(NoMemory),
             Node::Atom(leaf) => {
                 let ty = read_leaf(state, leaf)?;
                 self.keep(alloc, end, ty)
             }
             Node::Join(_, left, right) | Node::Field(_, left, right) => {
-                work.push(Visit::Leave(end, left, right))?;
+                work.push(Visit::Leave(end))?;
                 work.push(Visit::Enter(right))?;
                 work.push(Visit::Enter(left))?;
                 Ok(())
@@ -94,40 +177,54 @@ impl Reader {
         }
     }
 
-    fn leave(
+    /// Puts the type of a node together, whose parts were read.
+    fn leave(&mut self, alloc: Global, state: &State, at: usize) -> Result<(), NoMemory>
+        ensures { OnOk result (IsReady state.now.graph.nodes.items state.now.graph.kinds.items → AllRead state.now self.old → AllRead state.now self.new) }
+    {
+        match node_at(state.graph.nodes.as_slice(), at) {
+            Some(Node::Field(label, left, right)) => {
+                let one = self.part(state, left)?;
+                let two = self.part(state, right)?;
+                let ty = read_field(state, label, one, two)?;
+                self.keep(alloc, at, ty)
+            }
+            Some(Node::Join(former, left, right)) => {
+                let one = self.part(state, left)?;
+                let two = self.part(state, right)?;
+                let ty = read_join(state, former, left, one, two)?;
+                self.keep(alloc, at, ty)
+            }
+            _ => Err(NoMemory),
+        }
+    }
+
+    fn visit(
         &mut self,
         alloc: Global,
         state: &State,
-        at: usize,
-        left: usize,
-        right: usize,
-    ) -> Result<(), NoMemory> {
-        let one = self.part(alloc, state, left)?;
-        let two = self.part(alloc, state, right)?;
-        match state.graph.nodes.get(at).copied() {
-            Some(Node::Field(label, _, _)) => match state.labels.get(label) {
-                Some(name) => {
-                    let ty = Ty::RowCons(name.clone()?, one, two);
-                    self.keep(alloc, at, ty)
-                }
-                None => Ok(()),
-            },
-            _ => self.keep(alloc, at, Ty::App(one, two)),
+        work: &mut Vec<Visit>,
+        visit: Visit,
+    ) -> Result<(), NoMemory>
+        ensures { OnOk result (IsReady state.now.graph.nodes.items state.now.graph.kinds.items → AllRead state.now self.old → AllRead state.now self.new) }
+    {
+        match visit {
+            Visit::Enter(place) => self.enter(alloc, state, work, place),
+            Visit::Leave(place) => self.leave(alloc, state, place),
         }
     }
 
     /// The type at a place.
-    pub fn read(&mut self, alloc: Global, state: &State, at: usize) -> Result<Ty, NoMemory> {
+    pub fn read(&mut self, alloc: Global, state: &State, at: usize) -> Result<Ty, NoMemory>
+        ensures { IfOk result (λ ty. IsReady state.now.graph.nodes.items state.now.graph.kinds.items → AllRead state.now self.old → Reads state.now ty at) }
+    {
         let mut work = Vec::new(alloc);
         work.push(Visit::Enter(at))?;
         for _ in 0..u64::MAX {
-            match work.pop() {
-                None => return Ok(self.part(alloc, state, at)?.get().clone()?),
-                Some(Visit::Enter(place)) => self.enter(alloc, state, &mut work, place)?,
-                Some(Visit::Leave(place, left, right)) => self.leave(
-                    alloc, state, place, left, right,
-                )?,
-            }
+            let Some(visit) = work.pop() else {
+                let ty = self.part(state, at)?;
+                return Ok(ty.get().clone()?);
+            };
+            self.visit(alloc, state, &mut work, visit)?;
         }
         Err(NoMemory)
     }

@@ -1,12 +1,16 @@
 // The solver's calls. After want of memory it is spent; after a clash it answers that clash.
 
-use crate::add::add_type;
+ghost use Rattle.std.specs.Prelude.{◌≡◌, ℕ, ◌<◌, List, [], ◌∷◌, ◌++◌, length, Option, None, Some, OnOk, IfOk, Ok, Err, true, false};
+ghost use Rattle.psc_type.specs.declared.ty.Ty.{Ty};
+ghost use Rattle.psc_unify.specs.Solved.{Stands, HasNone, ArePlain, Continues};
+ghost use Rattle.psc_unify.specs.Promise.{IsSolved, IsUnsolvable, ArePlainIn, IsValue};
+
+use crate::equate::{narrow_bound, relate};
 use crate::names::Constant;
 use crate::read::Reader;
-use crate::state::{State, no_memory};
-use psc_graph::{Node, Stop};
-use psc_rows::make_equal;
-use psc_scopes::narrow;
+use crate::state::{State, scope_number};
+use crate::tables::Names;
+use psc_graph::Stop;
 use psc_text::{Ident, NoMemory, Qualified, Text};
 use psc_type::{Kind, Scope, Ty};
 use std::alloc::Global;
@@ -37,14 +41,28 @@ pub struct Solver {
     is_spent: bool,
 }
 
-/// How solving an equation ended.
+/// How an equation ended: with a solution, with none, or with none that keeps to the scopes.
 #[derive(Clone, Copy)]
 enum Ended {
     Solved,
-    Clashed { scopes_only: bool },
+    Clashed,
+    Escaped,
 }
 
-fn copy_clash(clash: &Clash) -> Result<Clash, NoMemory> {
+/// Gives constructors their numbers and kinds.
+fn add_constructors(names: &mut Names, kinds: &[TypeKind]) -> Result<(), NoMemory>
+    ensures { OnOk result (Continues names.old names.new) }
+{
+    for row in kinds {
+        let kind = names.kind(&row.kind)?;
+        names.constant(Constant::Con(row.name.clone()?), kind)?;
+    }
+    Ok(())
+}
+
+fn copy_clash(clash: &Clash) -> Result<Clash, NoMemory>
+    ensures { IfOk result (λ copy. copy ≡ clash.now) }
+{
     Ok(Clash {
         left: clash.left.clone()?,
         right: clash.right.clone()?,
@@ -52,53 +70,42 @@ fn copy_clash(clash: &Clash) -> Result<Clash, NoMemory> {
     })
 }
 
-/// Narrows the unknowns in the values of the unknowns that were bound.
-fn narrow_bound(alloc: Global, state: &mut State) -> Result<(), Stop> {
-    state.bounds.cover(state.graph.nodes.len())?;
-    for index in 0..state.graph.writes.len() {
-        let Some(write) = state.graph.writes.get(index).copied() else {
-            return Ok(());
-        };
-        if let Node::Free(_) = write.node {
-            narrow(
-                alloc,
-                state.graph.nodes.as_slice(),
-                &mut state.scopes,
-                &mut state.bounds,
-                write.place,
-            )?;
-        }
-    }
-    Ok(())
-}
-
-/// Solves the equation between two nodes, first with scopes left aside.
-fn solve(alloc: Global, state: &mut State, left: usize, right: usize) -> Result<Ended, NoMemory> {
-    match make_equal(alloc, &mut state.graph, left, right) {
-        Ok(()) => {}
-        Err(Stop::Clash) => return Ok(Ended::Clashed { scopes_only: false }),
-        Err(Stop::Memory) => return Err(NoMemory),
-    }
-    match narrow_bound(alloc, state) {
-        Ok(()) => Ok(Ended::Solved),
-        Err(Stop::Clash) => Ok(Ended::Clashed { scopes_only: true }),
-        Err(Stop::Memory) => Err(NoMemory),
-    }
+/// Takes an equation back: the nodes past the first `length`, and what was written since.
+fn take_back(state: &mut State, length: usize)
+    ensures { state.new.names ≡ state.old.names }
+{
+    state.graph.take_back(0, length);
+    state.bounds.take_back(length);
 }
 
 /// Adds an equation. After a clash the state is as it was before.
-fn add_equation(alloc: Global, state: &mut State, a: &Ty, b: &Ty) -> Result<Ended, NoMemory> {
+fn add_equation(alloc: Global, state: &mut State, a: &Ty, b: &Ty) -> Result<Ended, NoMemory>
+    ensures solved { result ≡ Ok Ended.Solved → ArePlain state.old.unknowns.items a.now b.now → (kinds : List ℕ) (eqs : List (Ty × Ty)) → Stands state.old.graph state.old.names state.old.unknowns.items kinds eqs → Stands state.new.graph state.new.names state.new.unknowns.items kinds ((a.now, b.now) ∷ eqs) }
+    ensures clash { result ≡ Ok Ended.Clashed → ArePlain state.old.unknowns.items a.now b.now → (kinds : List ℕ) (eqs : List (Ty × Ty)) → Stands state.old.graph state.old.names state.old.unknowns.items kinds eqs → HasNone state.new.names kinds ((a.now, b.now) ∷ eqs) }
+{
     let length = state.graph.nodes.len();
     state.graph.writes.clear();
     state.bounds.keep();
-    let left = add_type(state, &mut Vec::new(alloc), a)?;
-    let right = add_type(state, &mut Vec::new(alloc), b)?;
-    let ended = solve(alloc, state, left, right)?;
-    if let Ended::Clashed { scopes_only: _ } = &ended {
-        state.graph.take_back(0, length);
-        state.bounds.take_back(length);
+    let solved = relate(
+        alloc,
+        &mut state.graph,
+        &mut state.names,
+        state.unknowns.as_slice(),
+        a,
+        b,
+    )?;
+    if !solved {
+        take_back(state, length);
+        return Ok(Ended::Clashed);
     }
-    Ok(ended)
+    match narrow_bound(alloc, &state.graph, &mut state.scopes, &mut state.bounds) {
+        Ok(()) => Ok(Ended::Solved),
+        Err(Stop::Clash) => {
+            take_back(state, length);
+            Ok(Ended::Escaped)
+        }
+        Err(Stop::Memory) => Err(NoMemory),
+    }
 }
 
 fn clash_of(
@@ -107,7 +114,9 @@ fn clash_of(
     a: &Ty,
     b: &Ty,
     scopes_only: bool,
-) -> Result<Clash, NoMemory> {
+) -> Result<Clash, NoMemory>
+    ensures { IfOk result (λ clash. clash.scopes_only ≡ scopes_only) }
+{
     let mut reader = Reader::new(alloc);
     let left = reader.apply(alloc, state, a)?;
     let right = reader.apply(alloc, state, b)?;
@@ -121,14 +130,11 @@ fn clash_of(
 impl Solver {
     /// A solver without equations, over constructors of these kinds. A constructor that is not among
     /// them has the kind `Type`.
-    pub fn start(alloc: Global, kinds: &[TypeKind]) -> Result<Solver, NoMemory> {
+    pub fn start(alloc: Global, kinds: &[TypeKind]) -> Result<Solver, NoMemory>
+        ensures { IfOk result (λ solver. IsSolved solver [] []) }
+    {
         let mut state = State::new(alloc)?;
-        for row in kinds {
-            let kind = state.kinds.number(&row.kind)?;
-            state
-                .constants
-                .number(Constant::Con(row.name.clone()?), kind)?;
-        }
+        add_constructors(&mut state.names, kinds)?;
         Ok(Solver {
             state,
             made: 0,
@@ -140,7 +146,9 @@ impl Solver {
 
     /// A new rigid variable, whose name is the given one, `$` and the number of rigid variables before
     /// it. After want of memory here, in `fresh` or in `equate`, every call answers it.
-    pub fn rigid(&mut self, alloc: Global, name: &Ident, kind: Kind) -> Result<Ident, NoMemory> {
+    pub fn rigid(&mut self, alloc: Global, name: &Ident, kind: Kind) -> Result<Ident, NoMemory>
+        ensures { OnOk result ((kinds : List ℕ) (eqs : List (Ty × Ty)) → IsSolved self.old kinds eqs → IsSolved self.new kinds eqs) }
+    {
         if self.is_spent {
             return Err(NoMemory);
         }
@@ -148,8 +156,8 @@ impl Solver {
         let before = self.made;
         let text = format!(in alloc; "{}${}", name.0.as_str(), before)?;
         let made = Ident(Text::from_string(text)?);
-        let kind = self.state.kinds.number(&kind)?;
-        self.state.rigids.number(&made, kind)?;
+        let kind = self.state.names.kind(&kind)?;
+        self.state.names.rigid(&made, kind)?;
         self.made = before.saturating_add(1);
         self.is_spent = false;
         Ok(made)
@@ -157,39 +165,72 @@ impl Solver {
 
     /// A new unknown of a kind, in whose value the rigid variables of the scope may stand. The numbers
     /// of unknowns count from 0.
-    pub fn fresh(&mut self, alloc: Global, kind: Kind, scope: &Scope) -> Result<u64, NoMemory> {
+    pub fn fresh(&mut self, alloc: Global, kind: Kind, scope: &Scope) -> Result<u64, NoMemory>
+        ensures number { IfOk result (λ number. (kinds : List ℕ) (eqs : List (Ty × Ty)) → IsSolved self.old kinds eqs → number ≡ length kinds) }
+        ensures solved { OnOk result ((kinds : List ℕ) (eqs : List (Ty × Ty)) → IsSolved self.old kinds eqs → (k : ℕ) × IsSolved self.new (kinds ++ k ∷ []) eqs) }
+    {
         if self.is_spent {
             return Err(NoMemory);
         }
         self.is_spent = true;
-        let kind = self.state.kinds.number(&kind)?;
-        let bound = self
-            .state
-            .scope_number(alloc, scope.rigid.as_slice(), self.last_scope)?;
+        let kind = self.state.names.kind(&kind)?;
+        let bound = scope_number(
+            alloc,
+            &mut self.state.scopes,
+            &mut self.state.names,
+            scope.rigid.as_slice(),
+            self.last_scope,
+        )?;
         self.last_scope = bound;
         let number = self.state.push_unknown(kind, bound)?;
         self.is_spent = false;
         Ok(number)
     }
 
-    fn try_equate(&mut self, alloc: Global, a: &Ty, b: &Ty) -> Result<Result<(), Clash>, NoMemory> {
+    /// Keeps a clash, which every further equation is answered.
+    fn refuse(
+        &mut self,
+        alloc: Global,
+        a: &Ty,
+        b: &Ty,
+        scopes_only: bool,
+    ) -> Result<Clash, NoMemory>
+        ensures clash { IfOk result (λ clash. clash.scopes_only ≡ scopes_only) }
+        ensures state { self.new.state ≡ self.old.state }
+    {
+        let clash = clash_of(alloc, &self.state, a, b, scopes_only)?;
+        let copy = copy_clash(&clash)?;
+        self.clash = Some(clash);
+        Ok(copy)
+    }
+
+    fn try_equate(&mut self, alloc: Global, a: &Ty, b: &Ty) -> Result<Result<(), Clash>, NoMemory>
+        ensures solved { result ≡ Ok (Ok tt) → ArePlainIn self.old a.now b.now → (kinds : List ℕ) (eqs : List (Ty × Ty)) → IsSolved self.old kinds eqs → IsSolved self.new kinds ((a.now, b.now) ∷ eqs) }
+        ensures clash { (clash : Clash) → result ≡ Ok (Err clash) → clash.scopes_only ≡ false → ArePlainIn self.old a.now b.now → (kinds : List ℕ) (eqs : List (Ty × Ty)) → IsSolved self.old kinds eqs → IsUnsolvable self.new kinds ((a.now, b.now) ∷ eqs) }
+    {
         if let Some(clash) = &self.clash {
             return Ok(Err(copy_clash(clash)?));
         }
-        match add_equation(alloc, &mut self.state, a, b)? {
+        let ended = add_equation(alloc, &mut self.state, a, b)?;
+        match ended {
             Ended::Solved => Ok(Ok(())),
-            Ended::Clashed { scopes_only } => {
-                let clash = clash_of(alloc, &self.state, a, b, scopes_only)?;
-                let copy = copy_clash(&clash)?;
-                self.clash = Some(clash);
-                Ok(Err(copy))
+            Ended::Clashed => {
+                let clash = self.refuse(alloc, a, b, false)?;
+                Ok(Err(clash))
+            }
+            Ended::Escaped => {
+                let clash = self.refuse(alloc, a, b, true)?;
+                Ok(Err(clash))
             }
         }
     }
 
     /// Adds an equation. Clash where the equations so far have no solution with it; the values are then
     /// those of the equations before, and each further call answers that clash.
-    pub fn equate(&mut self, alloc: Global, a: &Ty, b: &Ty) -> Result<Result<(), Clash>, NoMemory> {
+    pub fn equate(&mut self, alloc: Global, a: &Ty, b: &Ty) -> Result<Result<(), Clash>, NoMemory>
+        ensures solved { result ≡ Ok (Ok tt) → ArePlainIn self.old a.now b.now → (kinds : List ℕ) (eqs : List (Ty × Ty)) → IsSolved self.old kinds eqs → IsSolved self.new kinds ((a.now, b.now) ∷ eqs) }
+        ensures clash { (clash : Clash) → result ≡ Ok (Err clash) → clash.scopes_only ≡ false → ArePlainIn self.old a.now b.now → (kinds : List ℕ) (eqs : List (Ty × Ty)) → IsSolved self.old kinds eqs → IsUnsolvable self.new kinds ((a.now, b.now) ∷ eqs) }
+    {
         if self.is_spent {
             return Err(NoMemory);
         }
@@ -200,13 +241,17 @@ impl Solver {
     }
 
     /// The value of an unknown in a most general solution of the equations so far.
-    pub fn value(&self, alloc: Global, unknown: u64) -> Result<Ty, NoMemory> {
+    pub fn value(&self, alloc: Global, unknown: u64) -> Result<Ty, NoMemory>
+        ensures { IfOk result (λ ty. (kinds : List ℕ) (eqs : List (Ty × Ty)) → IsSolved self.now kinds eqs → unknown < length kinds → IsValue self.now unknown ty) }
+    {
         if self.is_spent {
             return Err(NoMemory);
         }
-        match self.state.known_place(unknown) {
-            Some(place) => Reader::new(alloc).read(alloc, &self.state, place),
-            None => Ok(Ty::Unknown(unknown)),
-        }
+        let Some(place) = self.state.known_place(unknown) else {
+            return Ok(Ty::Unknown(unknown));
+        };
+        let mut reader = Reader::new(alloc);
+        let ty = reader.read(alloc, &self.state, place)?;
+        Ok(ty)
     }
 }

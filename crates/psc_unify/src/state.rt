@@ -1,7 +1,12 @@
 // What a solver has: the graph, the scopes of its unknowns, and the names of what stands in it.
+ghost use Rattle.std.specs.Prelude.{◌≡◌, ℕ, ◌<◌, List, [], ◌∷◌, ◌++◌, length, OnOk, IfOk, IfSome, true, slice_get, Some};
+ghost use Rattle.psc_type.specs.declared.ty.Ty.{Ty};
+ghost use Rattle.psc_unify.specs.Solved.{Stands, Continues};
+ghost use Rattle.psc_unify.specs.Reading.{place_of};
 
-use crate::kinds::{KindTable, STAR};
-use crate::names::{Classes, Constant, Constants, Labels, Rigids};
+use crate::add::{known_place, push};
+use crate::kinds::STAR;
+use crate::tables::Names;
 use psc_graph::{Node, Stop};
 use psc_rows::Graph;
 use psc_scopes::{Bounds, ScopeTable};
@@ -16,11 +21,7 @@ pub struct State {
     pub graph: Graph,
     pub scopes: ScopeTable,
     pub bounds: Bounds,
-    pub kinds: KindTable,
-    pub constants: Constants,
-    pub rigids: Rigids,
-    pub labels: Labels,
-    pub classes: Classes,
+    pub names: Names,
     pub unknowns: Vec<usize>,
     pub numbers: BTreeMap<usize, u64>,
 }
@@ -30,65 +31,60 @@ pub fn no_memory(_stop: Stop) -> NoMemory {
     NoMemory
 }
 
+/// Whether an unknown of this number is at the place.
+fn is_at(unknowns: &[usize], number: u64, place: usize) -> bool
+    ensures { result ≡ true → place_of unknowns.now number ≡ place }
+{
+    match unknowns.get(number as usize).copied() {
+        Some(own) => own == place,
+        None => false,
+    }
+}
+
+/// The number of an unknown that the solver made itself.
+fn made_number(unknowns: &[usize], place: usize) -> Option<u64>
+    ensures { IfSome result (λ number. place_of unknowns.now number ≡ place) }
+{
+    let number = u64::MAX - place as u64;
+    match unknowns.get(number as usize) {
+        Some(_) => None,
+        None => Some(number),
+    }
+}
+
 impl State {
-    pub fn new(alloc: Global) -> Result<State, NoMemory> {
+    /// The state without unknowns.
+    pub fn new(alloc: Global) -> Result<State, NoMemory>
+        ensures { IfOk result (λ state. Stands state.graph state.names state.unknowns.items [] []) }
+    {
+        let names = Names::new(alloc)?;
+        let graph = Graph::new(alloc);
+        let unknowns = Vec::new(alloc);
         Ok(State {
-            graph: Graph::new(alloc),
+            graph,
             scopes: ScopeTable::new(alloc),
             bounds: Bounds::new(alloc),
-            kinds: KindTable::new(alloc)?,
-            constants: Constants::new(alloc),
-            rigids: Rigids::new(alloc),
-            labels: Labels::new(alloc),
-            classes: Classes::new(alloc),
-            unknowns: Vec::new(alloc),
+            names,
+            unknowns,
             numbers: BTreeMap::new(alloc),
         })
     }
 
-    /// Adds a node.
-    pub fn push(&mut self, node: Node) -> Result<usize, NoMemory> {
-        match self.graph.push(node) {
-            Ok(place) => Ok(place),
-            Err(stop) => Err(no_memory(stop)),
-        }
-    }
-
-    /// Adds a constant, which has the kind that is given if it is new.
-    pub fn push_constant(&mut self, constant: Constant, kind: u64) -> Result<usize, NoMemory> {
-        let (number, kind) = self.constants.number(constant, kind)?;
-        self.push(Node::Atom(psc_graph::Leaf::Constant(number, kind)))
-    }
-
-    /// Adds a rigid variable, which has the kind that is given if it is new.
-    pub fn push_rigid(&mut self, name: &Ident) -> Result<usize, NoMemory> {
-        let (number, kind) = self.rigids.number(name, STAR)?;
-        self.push(Node::Atom(psc_graph::Leaf::Rigid(number, kind)))
-    }
-
     /// The place of an unknown of this solver.
-    pub fn known_place(&self, unknown: u64) -> Option<usize> {
-        if let Some(place) = self.unknowns.get(unknown as usize).copied() {
-            return Some(place);
-        }
-        let made = (u64::MAX - unknown) as usize;
-        if made < self.graph.nodes.len() {
-            return Some(made);
-        }
-        None
-    }
-
-    /// The place of an unknown. One that is not of this solver gets a node that no value shows.
-    pub fn place_of(&mut self, unknown: u64) -> Result<usize, NoMemory> {
-        if let Some(place) = self.known_place(unknown) {
-            return Ok(place);
-        }
-        self.push(Node::Free(STAR))
+    pub fn known_place(&self, unknown: u64) -> Option<usize>
+        ensures known { unknown < length self.now.unknowns.items → IfSome result (λ place. slice_get self.now.unknowns.items unknown ≡ Some place) }
+        ensures place { IfSome result (λ place. place ≡ place_of self.now.unknowns.items unknown) }
+    {
+        known_place(&self.graph, self.unknowns.as_slice(), unknown)
     }
 
     /// Adds an unknown, and gives its number.
-    pub fn push_unknown(&mut self, kind: u64, scope: u64) -> Result<u64, NoMemory> {
-        let place = self.push(Node::Free(kind))?;
+    pub fn push_unknown(&mut self, kind: u64, scope: u64) -> Result<u64, NoMemory>
+        ensures number { IfOk result (λ number. number ≡ length self.old.unknowns.items) }
+        ensures names { self.new.names ≡ self.old.names }
+        ensures stands { OnOk result ((kinds : List ℕ) (eqs : List (Ty × Ty)) → Stands self.old.graph self.old.names self.old.unknowns.items kinds eqs → Stands self.new.graph self.new.names self.new.unknowns.items (kinds ++ kind ∷ []) eqs) }
+    {
+        let place = push(&mut self.graph, Node::Free(kind))?;
         let number = self.unknowns.len() as u64;
         self.unknowns.push(place)?;
         self.numbers.insert(place, number)?;
@@ -101,32 +97,41 @@ impl State {
     }
 
     /// The number of the unknown at a place.
-    pub fn number_at(&self, place: usize) -> u64 {
+    pub fn number_at(&self, place: usize) -> Option<u64>
+        ensures { IfSome result (λ number. place_of self.now.unknowns.items number ≡ place) }
+    {
         match self.numbers.get(&place).copied() {
-            Some(number) => number,
-            None => u64::MAX - place as u64,
+            Some(number) => if is_at(self.unknowns.as_slice(), number, place) {
+                Some(number)
+            } else {
+                None
+            },
+            None => made_number(self.unknowns.as_slice(), place),
         }
     }
+}
 
-    /// The number of a scope: the one that was used last where it has the same rigid variables.
-    pub fn scope_number(
-        &mut self,
-        alloc: Global,
-        rigid: &[Ident],
-        last: u64,
-    ) -> Result<u64, NoMemory> {
-        let mut list = Vec::new(alloc);
-        for name in rigid {
-            let (number, _) = self.rigids.number(name, STAR)?;
-            list.push(number)?;
-        }
-        list.sort()?;
-        if self.scopes.has_exactly(last, list.as_slice()) {
-            return Ok(last);
-        }
-        match self.scopes.add(list) {
-            Ok(number) => Ok(number),
-            Err(stop) => Err(no_memory(stop)),
-        }
+/// The number of a scope: the one that was used last where it has the same rigid variables.
+pub fn scope_number(
+    alloc: Global,
+    scopes: &mut ScopeTable,
+    names: &mut Names,
+    rigid: &[Ident],
+    last: u64,
+) -> Result<u64, NoMemory>
+    ensures { OnOk result (Continues names.old names.new) }
+{
+    let mut list = Vec::new(alloc);
+    for name in rigid {
+        let (number, _) = names.rigid(name, STAR)?;
+        list.push(number)?;
+    }
+    list.sort()?;
+    if scopes.has_exactly(last, list.as_slice()) {
+        return Ok(last);
+    }
+    match scopes.add(list) {
+        Ok(number) => Ok(number),
+        Err(stop) => Err(no_memory(stop)),
     }
 }

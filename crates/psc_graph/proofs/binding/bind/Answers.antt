@@ -1,4 +1,4 @@
-use Rattle.std.proofs.Common.{ap, Bool, Ok, ◌≡◌, true, false}
+use Rattle.std.proofs.Common.{ap, Bool, Ok}
 use Rattle.std.proofs.lemmas.Option.{slice_get_within}
 use Rattle.psc_graph.proofs.BindAll.{solution_before, solution_after, ready_after, kind_clash}
 use Rattle.psc_graph.proofs.binding.bind.Goals as goal

@@ -1,4 +1,4 @@
-use Rattle.std.proofs.Common.{ap, Bool, Ok, ◌≡◌, ◌∙◌, ◌+◌, sym, refl, inl, inr, arith}
+use Rattle.std.proofs.Common.{ap, Bool, Ok, ◌+◌, refl, inl, inr, arith}
 use Rattle.psc_graph.specs.Tree.{size}
 use Rattle.psc_graph.proofs.Walk.{popped_within, explored_after, reaches_after, reached_lacks}
 use Rattle.psc_graph.proofs.occurs.is_in_either.Goals as goal

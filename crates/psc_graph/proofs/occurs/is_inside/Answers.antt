@@ -1,4 +1,4 @@
-use Rattle.std.proofs.Common.{ap, sym, ◌∙◌, Some, arith, refl}
+use Rattle.std.proofs.Common.{ap, ◌∙◌, Some, arith}
 use Rattle.psc_graph.proofs.Nodes.{size_join, size_field, lacks_join, lacks_field, lacks_leaf}
 use Rattle.psc_graph.proofs.occurs.is_inside.Goals as goal
 

@@ -1,4 +1,7 @@
-//! How long a solver takes for large sets of equations, in microseconds a case.
+//! How long a solver takes for large sets of equations.
+//!
+//! With an argument, each case is solved and printed on a line: its microseconds and its name. Without
+//! arguments nothing is solved or printed.
 #![tactic(auto)]
 
 use psc_items::{Shared, SharedItems};
@@ -6,6 +9,7 @@ use psc_text::{Ident, Label, Qualified, Text};
 use psc_type::{Kind, Scope, Ty};
 use psc_unify::{Solver, TypeKind};
 use std::alloc::Global;
+use std::env;
 use std::time::Instant;
 
 fn constructor(alloc: Global, name: &str) -> anyhow::Result<Ty> {
@@ -93,7 +97,7 @@ fn balanced(alloc: Global, levels: u32, leaf: u64) -> anyhow::Result<Ty> {
     }
     let left = balanced(alloc, levels - 1, leaf)?;
     let right = balanced(alloc, levels - 1, leaf)?;
-    apply(alloc, apply(alloc, constructor(alloc, "Pair")?, left)?, right)
+    pair(alloc, left, right)
 }
 
 /// Two types of 65,535 nodes, equated 50,000 times.
@@ -171,38 +175,65 @@ fn rows(alloc: Global) -> anyhow::Result<()> {
     equal(alloc, &mut solver, &one, &two)
 }
 
+/// `u(0) ~ u(k)` for 50,000 unknowns, and then the last ~ Int.
+fn star(alloc: Global) -> anyhow::Result<()> {
+    let mut solver = start(alloc)?;
+    let first = fresh(alloc, &mut solver)?;
+    let mut last = first;
+    for _ in 0..50_000 {
+        last = fresh(alloc, &mut solver)?;
+        equal(alloc, &mut solver, &Ty::Unknown(first), &Ty::Unknown(last))?;
+    }
+    let int = constructor(alloc, "Int")?;
+    equal(alloc, &mut solver, &Ty::Unknown(last), &int)
+}
+
+/// Solves the case of a number, and gives its name. None past the last.
+fn solve_case(alloc: Global, number: u32) -> anyhow::Result<Option<&'static str>> {
+    match number {
+        0 => {
+            chain_down(alloc)?;
+            Ok(Some("50,000 chained equations u ~ Array w"))
+        }
+        1 => {
+            chain_flat(alloc)?;
+            Ok(Some("50,000 chained equations u ~ w"))
+        }
+        2 => {
+            star(alloc)?;
+            Ok(Some("50,000 equations of one unknown with others"))
+        }
+        3 => {
+            large_twice(alloc)?;
+            Ok(Some("two types of 65,535 nodes, equated 50,000 times"))
+        }
+        4 => {
+            towers(alloc)?;
+            Ok(Some("two towers with 2^60 tree nodes"))
+        }
+        5 => {
+            nested(alloc)?;
+            Ok(Some("2,000 nested bindings"))
+        }
+        6 => {
+            rows(alloc)?;
+            Ok(Some("rows of 2,000 labels"))
+        }
+        _ => Ok(None),
+    }
+}
+
 fn main(rt: HostRuntime) -> anyhow::Result<()> {
     let alloc = rt.alloc();
-    for number in 0..6 {
+    if env::args(&rt)?.skip(1).next().is_none() {
+        return Ok(());
+    }
+    for number in 0..7 {
         let begin = Instant::now(&rt)?;
-        let name = match number {
-            0 => {
-                chain_down(alloc)?;
-                "50,000 chained equations u ~ Array w"
-            }
-            1 => {
-                chain_flat(alloc)?;
-                "50,000 chained equations u ~ w"
-            }
-            2 => {
-                large_twice(alloc)?;
-                "two types of 65,535 nodes, 50,000 times"
-            }
-            3 => {
-                towers(alloc)?;
-                "two towers with 2^60 tree nodes"
-            }
-            4 => {
-                nested(alloc)?;
-                "2,000 nested bindings"
-            }
-            _ => {
-                rows(alloc)?;
-                "rows of 2,000 labels"
-            }
-        };
-        let spent = begin.elapsed(&rt)?.as_micros();
-        println!(rt; "{spent} us: {name}")?;
+        if let Some(name) = solve_case(alloc, number)? {
+            let took = begin.elapsed(&rt)?.as_micros();
+            rt.println(format!(in alloc; "{} us: {}", took, name)?)?;
+        }
     }
     Ok(())
 }
