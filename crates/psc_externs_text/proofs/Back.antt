@@ -29,6 +29,7 @@ use Rattle.psc_externs.proofs.WrittenRules.{written-Given}
 use Rattle.psc_externs_text.specs.Words.{Words, word, first, kind_words, qualified_text, apps, concatenated, words, constraint_words}
 use Rattle.psc_externs_text.specs.Reading.{Stack, Step, push, makes_kind, makes_type, given_to, class_and_args, constraint_of, step}
 use Rattle.psc_externs_text.specs.declared.stack.Item.TheVariants.{OfKind, OfType}
+use Rattle.psc_externs_text.proofs.ClassRules.{with_args, class-App, class-Con}
 use Rattle.psc_externs_text.proofs.WordRules.{words-Given}
 use Rattle.psc_externs_text.proofs.Steps.{Spells, spells-none, spells-word, spells-append, spells-as, spells-first, nil-step, star-step, constr-step, sym-step, row-step, arrow-step, app-step, given-step, var-step, symbol-step, forall-step, label-step, con-step}
 
@@ -99,17 +100,6 @@ pub kind_back : (k : Kind) → is_known_kind k ≡ true → (length (kind_words 
 kind_back = ind-Kind KindBack (λ x y is. subst (λ z. KindBack (roll-Kind z)) is (level_kind y))
 
 -- ---- a class with its arguments
-
-abbrev with_args : List Ty → Qualified × List Ty → Qualified × List Ty
-with_args more p = (p.0, p.1 ++ more)
-
-class-App : (f a : Ty) → class_and_args (ty.App f a) ≡ option_map (with_args (a ∷ [])) (class_and_args f)
-unfolding class_and_args block.hidden-the_row-Ty-0 hidden
-class-App f a = refl
-
-class-Con : (q : Qualified) → class_and_args (ty.Con q) ≡ Some (q, [])
-unfolding class_and_args
-class-Con q = refl
 
 abbrev pub applied : Ty → List Ty → Ty
 applied f [] = f
