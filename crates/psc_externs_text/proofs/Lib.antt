@@ -1,3 +1,9 @@
 pub mod Appended
+pub mod Back
+pub mod ClassRules
+pub mod Laid
 pub mod Lists
+pub mod Pops
+pub mod RowsLaid
+pub mod Steps
 pub mod WordRules

@@ -1,5 +1,6 @@
 -- The rows of interface files and of places as JSON data.
-use Rattle.std.specs.Prelude.{ℕ, Bool, List, [], ◌∷◌, ◌++◌, map, codes}
+use Rattle.std.specs.Prelude.{ℕ, Bool, cond, nat_eq, List, [], ◌∷◌, ◌++◌, map, Option, Some, None, codes}
+use Rattle.std.specs.Cmp.Lexicographic.{pointwise}
 use Rattle.serde_json.specs.Data.{Data, boolean, number, unsigned, string, array, object, Items, no_items, item, Members, no_members, member}
 use Rattle.serde_json.specs.View.{items_of}
 use Rattle.psc_text.specs.declared.span.Span.{Span}
@@ -68,6 +69,19 @@ space_text space.XType = codes "type"
 space_text space.TypeOp = codes "typeop"
 space_text space.Value = codes "value"
 space_text space.ValueOp = codes "valueop"
+
+abbrev pub same : List ℕ → List ℕ → Bool
+same a b = pointwise nat_eq a b
+
+-- what has this word
+abbrev pub assoc_of : List ℕ → Option Assoc
+assoc_of w = cond (same w (codes "infix")) (Some assoc.Infix) (cond (same w (codes "infixl")) (Some assoc.Infixl) (cond (same w (codes "infixr")) (Some assoc.Infixr) None))
+
+abbrev pub op_space_of : List ℕ → Option OpSpace
+op_space_of w = cond (same w (codes "typeop")) (Some op.TypeOp) (cond (same w (codes "valueop")) (Some op.ValueOp) None)
+
+abbrev pub space_named : List ℕ → Option Space
+space_named w = cond (same w (codes "constructor")) (Some space.Constructor) (cond (same w (codes "type")) (Some space.XType) (cond (same w (codes "typeop")) (Some space.TypeOp) (cond (same w (codes "value")) (Some space.Value) (cond (same w (codes "valueop")) (Some space.ValueOp) None))))
 
 abbrev pub param_parts : List ℕ → Data → Data
 param_parts name k = pair (string name) k

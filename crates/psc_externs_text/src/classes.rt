@@ -1,6 +1,12 @@
 //! Classes, with their parameters and dependencies.
 
-use crate::row::{Row, list_member, list_value, member, part, read_list};
+ghost use Rattle.std.specs.Prelude.{◌≡◌, Some};
+ghost use Rattle.psc_externs.specs.declared.rows.ClassRow.{ClassRow};
+ghost use Rattle.psc_externs.specs.declared.rows.Dependency.{Dependency};
+ghost use Rattle.psc_externs.specs.declared.rows.Param.{Param};
+
+use crate::kept::kept_name;
+use crate::row::{Row, list_member, list_part, list_value, member, part};
 use psc_externs::{ClassRow, Dependency, ExternConstraint, ExternKind, Name, Param};
 use psc_items::SharedItems;
 use psc_text::NoMemory;
@@ -8,13 +14,16 @@ use serde_json::{Value, json};
 use std::alloc::Global;
 
 impl Row for Param {
+    ghost use Rattle.psc_externs_text.specs.Kept as kept;
     ghost use Rattle.psc_externs_text.specs.Rows as rows;
 
     ghost json = { rows.param };
 
+    ghost keeps = { kept.keeps_param };
+
     fn value(&self, alloc: Global) -> Result<Value, NoMemory> {
         let kind = self.kind.value(alloc)?;
-        Ok(json!(in alloc; [self.name.as_str(), kind])?)
+        Ok(json!(in alloc; [kept_name(&self.name), kind])?)
     }
 
     fn read(alloc: Global, value: &Value) -> Result<Option<Param>, NoMemory> {
@@ -24,7 +33,9 @@ impl Row for Param {
     }
 }
 
-fn param_of(name: Option<Name>, kind: Option<ExternKind>) -> Option<Param> {
+fn param_of(name: Option<Name>, kind: Option<ExternKind>) -> Option<Param>
+    ensures { (r : Param) → name ≡ Some r.name → kind ≡ Some r.kind → result ≡ Some r }
+{
     Some(Param {
         name: name?,
         kind: kind?,
@@ -32,9 +43,12 @@ fn param_of(name: Option<Name>, kind: Option<ExternKind>) -> Option<Param> {
 }
 
 impl Row for Dependency {
+    ghost use Rattle.psc_externs_text.specs.Kept as kept;
     ghost use Rattle.psc_externs_text.specs.Rows as rows;
 
     ghost json = { rows.dependency };
+
+    ghost keeps = { kept.keeps_dependency };
 
     fn value(&self, alloc: Global) -> Result<Value, NoMemory> {
         let determining = list_value(alloc, self.determining.as_slice())?;
@@ -43,27 +57,18 @@ impl Row for Dependency {
     }
 
     fn read(alloc: Global, value: &Value) -> Result<Option<Dependency>, NoMemory> {
-        let determining = part_list(alloc, value, 0)?;
-        let determined = part_list(alloc, value, 1)?;
+        let determining = list_part(alloc, value, 0)?;
+        let determined = list_part(alloc, value, 1)?;
         Ok(dependency_of(determining, determined))
-    }
-}
-
-fn part_list(
-    alloc: Global,
-    value: &Value,
-    place: usize,
-) -> Result<Option<SharedItems<u32>>, NoMemory> {
-    match value.get(place) {
-        Some(value) => read_list(alloc, value),
-        None => Ok(None),
     }
 }
 
 fn dependency_of(
     determining: Option<SharedItems<u32>>,
     determined: Option<SharedItems<u32>>,
-) -> Option<Dependency> {
+) -> Option<Dependency>
+    ensures { (r : Dependency) → determining ≡ Some r.determining → determined ≡ Some r.determined → result ≡ Some r }
+{
     Some(Dependency {
         determining: determining?,
         determined: determined?,
@@ -71,9 +76,12 @@ fn dependency_of(
 }
 
 impl Row for ClassRow {
+    ghost use Rattle.psc_externs_text.specs.Kept as kept;
     ghost use Rattle.psc_externs_text.specs.Rows as rows;
 
     ghost json = { rows.class_row };
+
+    ghost keeps = { kept.keeps_class };
 
     fn value(&self, alloc: Global) -> Result<Value, NoMemory> {
         let deps = list_value(alloc, self.deps.as_slice())?;
@@ -83,7 +91,7 @@ impl Row for ClassRow {
         Ok(json!(in alloc; {
             "deps": deps,
             "members": members,
-            "name": self.name.as_str(),
+            "name": kept_name(&self.name),
             "params": params,
             "supers": supers
         })?)
@@ -105,7 +113,9 @@ fn class_of(
     name: Option<Name>,
     params: Option<SharedItems<Param>>,
     supers: Option<SharedItems<ExternConstraint>>,
-) -> Option<ClassRow> {
+) -> Option<ClassRow>
+    ensures { (r : ClassRow) → deps ≡ Some r.deps → members ≡ Some r.members → name ≡ Some r.name → params ≡ Some r.params → supers ≡ Some r.supers → result ≡ Some r }
+{
     Some(ClassRow {
         deps: deps?,
         members: members?,

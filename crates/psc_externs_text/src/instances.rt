@@ -1,6 +1,10 @@
 //! Instances and synonyms.
 
-use crate::names::true_name_text;
+ghost use Rattle.std.specs.Prelude.{◌≡◌, Some};
+ghost use Rattle.psc_externs.specs.declared.rows.InstanceRow.{InstanceRow};
+ghost use Rattle.psc_externs.specs.declared.rows.SynonymRow.{SynonymRow};
+
+use crate::kept::kept_name;
 use crate::row::{Row, list_member, list_value, member};
 use psc_externs::{ExternConstraint, ExternType, InstanceRow, Name, Param, SynonymRow, TrueName};
 use psc_items::SharedItems;
@@ -9,22 +13,26 @@ use serde_json::{Value, json};
 use std::alloc::Global;
 
 impl Row for InstanceRow {
+    ghost use Rattle.psc_externs_text.specs.Kept as kept;
     ghost use Rattle.psc_externs_text.specs.Rows as rows;
 
     ghost json = { rows.instance_row };
 
+    ghost keeps = { kept.keeps_instance };
+
     fn value(&self, alloc: Global) -> Result<Value, NoMemory> {
-        let class = true_name_text(alloc, &self.class)?;
+        let class = self.class.value(alloc)?;
+        let index = self.index.value(alloc)?;
         let context = list_value(alloc, self.context.as_slice())?;
         let head = list_value(alloc, self.head.as_slice())?;
         let vars = list_value(alloc, self.vars.as_slice())?;
         Ok(json!(in alloc; {
-            "chain": self.chain.as_str(),
-            "class": class.as_str(),
+            "chain": kept_name(&self.chain),
+            "class": class,
             "context": context,
             "head": head,
-            "index": self.index,
-            "name": self.name.as_str(),
+            "index": index,
+            "name": kept_name(&self.name),
             "vars": vars
         })?)
     }
@@ -56,7 +64,9 @@ fn instance_of(
     context: Option<SharedItems<ExternConstraint>>,
     head: Option<SharedItems<ExternType>>,
     vars: Option<SharedItems<Name>>,
-) -> Option<InstanceRow> {
+) -> Option<InstanceRow>
+    ensures { (r : InstanceRow) → names.chain ≡ Some r.chain → names.class ≡ Some r.class → names.index ≡ Some r.index → names.name ≡ Some r.name → context ≡ Some r.context → head ≡ Some r.head → vars ≡ Some r.vars → result ≡ Some r }
+{
     Some(InstanceRow {
         chain: names.chain?,
         class: names.class?,
@@ -69,16 +79,19 @@ fn instance_of(
 }
 
 impl Row for SynonymRow {
+    ghost use Rattle.psc_externs_text.specs.Kept as kept;
     ghost use Rattle.psc_externs_text.specs.Rows as rows;
 
     ghost json = { rows.synonym_row };
+
+    ghost keeps = { kept.keeps_synonym };
 
     fn value(&self, alloc: Global) -> Result<Value, NoMemory> {
         let body = self.body.value(alloc)?;
         let params = list_value(alloc, self.params.as_slice())?;
         Ok(json!(in alloc; {
             "body": body,
-            "name": self.name.as_str(),
+            "name": kept_name(&self.name),
             "params": params
         })?)
     }
@@ -95,7 +108,9 @@ fn synonym_of(
     body: Option<ExternType>,
     name: Option<Name>,
     params: Option<SharedItems<Param>>,
-) -> Option<SynonymRow> {
+) -> Option<SynonymRow>
+    ensures { (r : SynonymRow) → body ≡ Some r.body → name ≡ Some r.name → params ≡ Some r.params → result ≡ Some r }
+{
     Some(SynonymRow {
         body: body?,
         name: name?,

@@ -10,11 +10,13 @@ mod classes;
 mod exports;
 mod fixities;
 mod instances;
+mod kept;
 mod meaning;
 mod names;
 mod places;
 mod row;
 mod spaces;
+mod stack;
 #[cfg(test)]
 mod tests;
 mod text;

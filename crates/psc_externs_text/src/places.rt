@@ -1,23 +1,32 @@
 //! Declarations and mentions, with their places.
 
-ghost use Rattle.std.specs.Prelude.{◌≡◌, false, IfOk};
-ghost use Rattle.serde_json.specs.View.{view};
-ghost use Rattle.psc_externs_text.specs.Rows as spec;
+ghost use Rattle.std.specs.Prelude.{◌≡◌, Some};
+ghost use Rattle.psc_text.specs.declared.span.Span.{Span};
+ghost use Rattle.psc_externs.specs.declared.places.DeclRow.{DeclRow};
+ghost use Rattle.psc_externs.specs.declared.places.UseRow.{UseRow};
 
+use crate::kept::{kept_entity, kept_module};
 use crate::row::{Row, member, part};
-use crate::spaces::{read_entity, space_word};
+use crate::spaces::{entity_of, space_word};
 use psc_externs::{DeclRow, Entity, UseRow};
 use psc_text::{ModuleName, NoMemory, Span};
 use serde_json::{Value, json};
 use std::alloc::Global;
 
 impl Row for Span {
+    ghost use Rattle.psc_externs_text.specs.Kept as kept;
     ghost use Rattle.psc_externs_text.specs.Rows as rows;
 
     ghost json = { rows.span };
 
+    ghost keeps = { kept.keeps_span };
+
     fn value(&self, alloc: Global) -> Result<Value, NoMemory> {
-        Ok(json!(in alloc; [self.line, self.column, self.end_line, self.end_column])?)
+        let line = self.line.value(alloc)?;
+        let column = self.column.value(alloc)?;
+        let end_line = self.end_line.value(alloc)?;
+        let end_column = self.end_column.value(alloc)?;
+        Ok(json!(in alloc; [line, column, end_line, end_column])?)
     }
 
     fn read(alloc: Global, value: &Value) -> Result<Option<Span>, NoMemory> {
@@ -34,7 +43,9 @@ fn span_of(
     column: Option<u32>,
     end_line: Option<u32>,
     end_column: Option<u32>,
-) -> Option<Span> {
+) -> Option<Span>
+    ensures { (r : Span) → line ≡ Some r.line → column ≡ Some r.column → end_line ≡ Some r.end_line → end_column ≡ Some r.end_column → result ≡ Some r }
+{
     Some(Span {
         line: line?,
         column: column?,
@@ -44,27 +55,33 @@ fn span_of(
 }
 
 impl Row for DeclRow {
+    ghost use Rattle.psc_externs_text.specs.Kept as kept;
     ghost use Rattle.psc_externs_text.specs.Rows as rows;
 
     ghost json = { rows.decl_row };
 
+    ghost keeps = { kept.keeps_decl };
+
     fn value(&self, alloc: Global) -> Result<Value, NoMemory> {
         let span = self.span.value(alloc)?;
         Ok(json!(in alloc; {
-            "name": self.entity.text().as_str(),
+            "name": kept_entity(&self.entity),
             "space": space_word(self.entity.space()),
             "span": span
         })?)
     }
 
     fn read(alloc: Global, value: &Value) -> Result<Option<DeclRow>, NoMemory> {
-        let entity = read_entity(alloc, value.get("space"), value.get("name"))?;
+        let space = member(alloc, value, "space")?;
+        let text = member(alloc, value, "name")?;
         let span = member(alloc, value, "span")?;
-        Ok(decl_of(entity, span))
+        Ok(decl_of(entity_of(space, text), span))
     }
 }
 
-fn decl_of(entity: Option<Entity>, span: Option<Span>) -> Option<DeclRow> {
+fn decl_of(entity: Option<Entity>, span: Option<Span>) -> Option<DeclRow>
+    ensures { (r : DeclRow) → entity ≡ Some r.entity → span ≡ Some r.span → result ≡ Some r }
+{
     Some(DeclRow {
         entity: entity?,
         span: span?,
@@ -72,25 +89,29 @@ fn decl_of(entity: Option<Entity>, span: Option<Span>) -> Option<DeclRow> {
 }
 
 impl Row for UseRow {
+    ghost use Rattle.psc_externs_text.specs.Kept as kept;
     ghost use Rattle.psc_externs_text.specs.Rows as rows;
 
     ghost json = { rows.use_row };
 
+    ghost keeps = { kept.keeps_use };
+
     fn value(&self, alloc: Global) -> Result<Value, NoMemory> {
         let span = self.span.value(alloc)?;
         Ok(json!(in alloc; {
-            "module": self.module.as_str(),
-            "name": self.entity.text().as_str(),
+            "module": kept_module(&self.module),
+            "name": kept_entity(&self.entity),
             "space": space_word(self.entity.space()),
             "span": span
         })?)
     }
 
     fn read(alloc: Global, value: &Value) -> Result<Option<UseRow>, NoMemory> {
-        let entity = read_entity(alloc, value.get("space"), value.get("name"))?;
+        let space = member(alloc, value, "space")?;
+        let text = member(alloc, value, "name")?;
         let module = member(alloc, value, "module")?;
         let span = member(alloc, value, "span")?;
-        Ok(use_of(module, entity, span))
+        Ok(use_of(module, entity_of(space, text), span))
     }
 }
 
@@ -98,7 +119,9 @@ fn use_of(
     module: Option<ModuleName>,
     entity: Option<Entity>,
     span: Option<Span>,
-) -> Option<UseRow> {
+) -> Option<UseRow>
+    ensures { (r : UseRow) → «module» ≡ Some r.«module» → entity ≡ Some r.entity → span ≡ Some r.span → result ≡ Some r }
+{
     Some(UseRow {
         module: module?,
         entity: entity?,

@@ -1,8 +1,12 @@
 //! Words for name spaces and for the sides of operators, and names in their name spaces.
 
-ghost use Rattle.std.specs.Prelude.{◌≡◌};
-ghost use Rattle.psc_externs_text.specs.Rows as spec;
+ghost use Rattle.std.specs.Prelude.{◌≡◌, true, Some};
+ghost use Rattle.psc_externs.specs.Entities.{space_of, text_of};
+ghost use Rattle.psc_externs.specs.declared.rows.Entity.{Entity};
+ghost use Rattle.psc_externs_text.specs.Kept.{keeps_entity};
+ghost use Rattle.psc_externs_text.specs.Rows as rows;
 
+use crate::names::string_value;
 use crate::row::Row;
 use psc_externs::{Assoc, Entity, Name, OpSpace, Space};
 use psc_text::{NoMemory, OpName, Text};
@@ -10,8 +14,8 @@ use serde_json::Value;
 use std::alloc::Global;
 
 /// The word of a side.
-pub(crate) fn assoc_word(assoc: Assoc) -> &'static str
-    ensures { result.now ≡ spec.assoc_text assoc }
+fn assoc_word(assoc: Assoc) -> &'static str
+    ensures { result.now ≡ rows.assoc_text assoc }
 {
     match assoc {
         Assoc::Infix => "infix",
@@ -21,8 +25,8 @@ pub(crate) fn assoc_word(assoc: Assoc) -> &'static str
 }
 
 /// The word of an operator's name space.
-pub(crate) fn op_space_word(space: OpSpace) -> &'static str
-    ensures { result.now ≡ spec.op_space_text space }
+fn op_space_word(space: OpSpace) -> &'static str
+    ensures { result.now ≡ rows.op_space_text space }
 {
     match space {
         OpSpace::TypeOp => "typeop",
@@ -32,7 +36,7 @@ pub(crate) fn op_space_word(space: OpSpace) -> &'static str
 
 /// The word of a name space.
 pub(crate) fn space_word(space: Space) -> &'static str
-    ensures { result.now ≡ spec.space_text space }
+    ensures { result.now ≡ rows.space_text space }
 {
     match space {
         Space::Constructor => "constructor",
@@ -44,56 +48,121 @@ pub(crate) fn space_word(space: Space) -> &'static str
 }
 
 /// The side that has this word.
-pub(crate) fn read_assoc(word: &Value) -> Option<Assoc> {
-    match word.as_str()? {
-        "infix" => Some(Assoc::Infix),
-        "infixl" => Some(Assoc::Infixl),
-        "infixr" => Some(Assoc::Infixr),
-        _ => None,
+fn assoc_of(word: &str) -> Option<Assoc>
+    ensures { result ≡ rows.assoc_of word.now }
+{
+    if word == "infix" {
+        Some(Assoc::Infix)
+    } else if word == "infixl" {
+        Some(Assoc::Infixl)
+    } else if word == "infixr" {
+        Some(Assoc::Infixr)
+    } else {
+        None
     }
 }
 
 /// The operators' name space that has this word.
-pub(crate) fn read_op_space(word: &Value) -> Option<OpSpace> {
-    match word.as_str()? {
-        "typeop" => Some(OpSpace::TypeOp),
-        "valueop" => Some(OpSpace::ValueOp),
-        _ => None,
+fn op_space_of(word: &str) -> Option<OpSpace>
+    ensures { result ≡ rows.op_space_of word.now }
+{
+    if word == "typeop" {
+        Some(OpSpace::TypeOp)
+    } else if word == "valueop" {
+        Some(OpSpace::ValueOp)
+    } else {
+        None
     }
 }
 
 /// The name space that has this word.
-fn read_space(word: &str) -> Option<Space> {
-    match word {
-        "constructor" => Some(Space::Constructor),
-        "type" => Some(Space::XType),
-        "typeop" => Some(Space::TypeOp),
-        "value" => Some(Space::Value),
-        "valueop" => Some(Space::ValueOp),
-        _ => None,
+fn space_named(word: &str) -> Option<Space>
+    ensures { result ≡ rows.space_named word.now }
+{
+    if word == "constructor" {
+        Some(Space::Constructor)
+    } else if word == "type" {
+        Some(Space::XType)
+    } else if word == "typeop" {
+        Some(Space::TypeOp)
+    } else if word == "value" {
+        Some(Space::Value)
+    } else if word == "valueop" {
+        Some(Space::ValueOp)
+    } else {
+        None
     }
 }
 
-/// The name in the name space that these words spell.
-pub(crate) fn read_entity(
-    alloc: Global,
-    space: Option<&Value>,
-    name: Option<&Value>,
-) -> Result<Option<Entity>, NoMemory> {
-    let (Some(space), Some(name)) = (space, name) else {
-        return Ok(None);
-    };
-    let (Some(space), Some(text)) = (space.as_str(), name.as_str()) else {
-        return Ok(None);
-    };
-    match read_space(space) {
-        Some(space) => Ok(entity_of(space, Text::new(alloc, text)?)),
-        None => Ok(None),
+impl Row for Assoc {
+    ghost use Rattle.std.specs.Prelude.{true};
+    ghost use Rattle.serde_json.specs.Data.{string};
+    ghost use Rattle.psc_externs_text.specs.Rows as rows;
+
+    ghost json = { λ a. string (rows.assoc_text a) };
+
+    ghost keeps = { λ a. true };
+
+    fn value(&self, alloc: Global) -> Result<Value, NoMemory> {
+        string_value(alloc, assoc_word(*self))
+    }
+
+    fn read(_alloc: Global, value: &Value) -> Result<Option<Assoc>, NoMemory> {
+        match value.as_str() {
+            Some(word) => Ok(assoc_of(word)),
+            None => Ok(None),
+        }
     }
 }
 
-fn entity_of(space: Space, text: Text) -> Option<Entity> {
-    match space {
+impl Row for OpSpace {
+    ghost use Rattle.std.specs.Prelude.{true};
+    ghost use Rattle.serde_json.specs.Data.{string};
+    ghost use Rattle.psc_externs_text.specs.Rows as rows;
+
+    ghost json = { λ s. string (rows.op_space_text s) };
+
+    ghost keeps = { λ s. true };
+
+    fn value(&self, alloc: Global) -> Result<Value, NoMemory> {
+        string_value(alloc, op_space_word(*self))
+    }
+
+    fn read(_alloc: Global, value: &Value) -> Result<Option<OpSpace>, NoMemory> {
+        match value.as_str() {
+            Some(word) => Ok(op_space_of(word)),
+            None => Ok(None),
+        }
+    }
+}
+
+impl Row for Space {
+    ghost use Rattle.std.specs.Prelude.{true};
+    ghost use Rattle.serde_json.specs.Data.{string};
+    ghost use Rattle.psc_externs_text.specs.Rows as rows;
+
+    ghost json = { λ s. string (rows.space_text s) };
+
+    ghost keeps = { λ s. true };
+
+    fn value(&self, alloc: Global) -> Result<Value, NoMemory> {
+        string_value(alloc, space_word(*self))
+    }
+
+    fn read(_alloc: Global, value: &Value) -> Result<Option<Space>, NoMemory> {
+        match value.as_str() {
+            Some(word) => Ok(space_named(word)),
+            None => Ok(None),
+        }
+    }
+}
+
+/// The name in the name space that these spell.
+pub(crate) fn entity_of(space: Option<Space>, text: Option<Text>) -> Option<Entity>
+    ensures { (e : Entity) → keeps_entity e ≡ true → space ≡ Some (space_of e) → text ≡ Some (text_of e) → result ≡ Some e }
+{
+    let text = text?;
+    match space? {
         Space::Constructor => Some(Entity::Constructor(Name::new(text)?)),
         Space::XType => Some(Entity::XType(Name::new(text)?)),
         Space::TypeOp => Some(Entity::TypeOp(OpName(text))),

@@ -112,19 +112,36 @@ fn the_rows_have_what_the_text_says(rt: HostRuntime) -> Result<(), Fail> {
     Ok(())
 }
 
+/// Whether the text of an interface file is read and written back.
+fn comes_back(alloc: Global, text: &str) -> Result<bool, NoMemory> {
+    match read(alloc, text.as_bytes())? {
+        Some(externs) => Ok(write(alloc, &externs)?.as_str() == text),
+        None => Ok(false),
+    }
+}
+
+/// Whether the text of places is read and written back.
+fn places_come_back(alloc: Global, text: &str) -> Result<bool, NoMemory> {
+    match read_places(alloc, text.as_bytes())? {
+        Some(places) => Ok(write_places(alloc, &places)?.as_str() == text),
+        None => Ok(false),
+    }
+}
+
+/// The files of `module M where` with `x = 1` on its second line, and those of a module without rows.
 #[test]
-fn a_file_without_rows(rt: HostRuntime) -> Result<(), Fail> {
-    let text =
+fn files_of_small_modules(rt: HostRuntime) -> Result<(), Fail> {
+    let one =
+        r#"{"classes":[],"constructors":[],"exports":[["value","x","M"]],"fixities":[],"imports":[],"instances":[],"module":"M","synonyms":[],"types":[],"values":[{"name":"x","type":["con Prim.Int"]}],"version":1}"#;
+    assert!(rt; comes_back(rt.alloc(), one)?);
+    let none =
         r#"{"classes":[],"constructors":[],"exports":[],"fixities":[],"imports":[],"instances":[],"module":"M","synonyms":[],"types":[],"values":[],"version":1}"#;
-    let Some(externs) = read(rt.alloc(), text.as_bytes())? else {
-        return Err(Fail::new("not read"));
-    };
-    assert_eq!(rt; write(rt.alloc(), &externs)?.as_str(), text);
-    let text = r#"{"decls":[],"module":"M","uses":[],"version":1}"#;
-    let Some(places) = read_places(rt.alloc(), text.as_bytes())? else {
-        return Err(Fail::new("not read"));
-    };
-    assert_eq!(rt; write_places(rt.alloc(), &places)?.as_str(), text);
+    assert!(rt; comes_back(rt.alloc(), none)?);
+    let places =
+        r#"{"decls":[{"name":"x","space":"value","span":[2,1,2,6]}],"module":"M","uses":[],"version":1}"#;
+    assert!(rt; places_come_back(rt.alloc(), places)?);
+    let nowhere = r#"{"decls":[],"module":"M","uses":[],"version":1}"#;
+    assert!(rt; places_come_back(rt.alloc(), nowhere)?);
     Ok(())
 }
 
@@ -328,175 +345,101 @@ fn other_texts_of_places_are_refused_one_by_one(rt: HostRuntime) -> Result<(), F
     Ok(())
 }
 
-/// Makes types from what they consist of.
-#[derive(Clone, Copy)]
-struct Make {
-    alloc: Global,
-}
-
-impl Make {
-    fn text(self, text: &str) -> Result<Text, NoMemory> {
-        Text::new(self.alloc, text)
-    }
-
-    fn var(self, name: &str) -> Result<Ty, NoMemory> {
-        Ok(Ty::Var(Ident(self.text(name)?)))
-    }
-
-    fn name(self, module: &str, name: &str) -> Result<Qualified, NoMemory> {
-        Ok(Qualified {
-            module: read_module_name(self.alloc, module)?,
-            name: self.text(name)?,
-        })
-    }
-
-    fn shared(self, ty: Ty) -> Result<Shared<Ty>, NoMemory> {
-        Ok(Shared::new(self.alloc, ty)?)
-    }
-
-    fn app(self, function: Ty, argument: Ty) -> Result<Ty, NoMemory> {
-        Ok(Ty::App(self.shared(function)?, self.shared(argument)?))
-    }
-
-    fn forall(self, name: &str, kind: Kind, body: Ty) -> Result<Ty, NoMemory> {
-        Ok(Ty::Forall(Ident(self.text(name)?), kind, self.shared(body)?))
-    }
-
-    fn given(self, args: Vec<Ty>, body: Ty) -> Result<Ty, NoMemory> {
-        let class = self.name("A.B", "C")?;
-        let args = SharedItems::from_vec(self.alloc, args)?;
-        Ok(Ty::Given(Constraint { class, args }, self.shared(body)?))
-    }
-
-    fn cons(self, label: &str, ty: Ty, rest: Ty) -> Result<Ty, NoMemory> {
-        let label = Label(self.text(label)?);
-        Ok(Ty::RowCons(label, self.shared(ty)?, self.shared(rest)?))
-    }
-
-    /// The empty interface file with one value of this type.
-    fn externs(self, ty: Ty) -> Result<Option<Externs>, NoMemory> {
-        let text =
-            r#"{"classes":[],"constructors":[],"exports":[],"fixities":[],"imports":[],"instances":[],"module":"M","synonyms":[],"types":[],"values":[],"version":1}"#;
-        let (name, x_type) = (Name::new(self.text("x")?), ExternType::new(ty));
-        match (read(self.alloc, text.as_bytes())?, name, x_type) {
-            (Some(externs), Some(name), Some(x_type)) => {
-                let mut rows = Vec::new(self.alloc);
-                rows.push(ValueRow { name, x_type })?;
-                let values = SharedItems::from_vec(self.alloc, rows)?;
-                Ok(Some(Externs { values, ..externs }))
-            }
-            _ => Ok(None),
-        }
-    }
-}
-
-/// Whether a type is written as these words, and read back.
-fn is_written_as(make: Make, ty: Ty, words: &str) -> Result<bool, NoMemory> {
-    let Some(externs) = make.externs(ty)? else {
-        return Ok(false);
-    };
-    let text = write(make.alloc, &externs)?;
-    let want = joined(
-        make.alloc,
-        &[
-            r#"{"classes":[],"constructors":[],"exports":[],"fixities":[],"imports":[],"instances":[],"module":"M","synonyms":[],"types":[],"values":[{"name":"x","type":"#,
-            words,
-            r#"}],"version":1}"#,
-        ],
-    )?;
-    let back = read(make.alloc, text.as_str().as_bytes())?;
-    Ok(text.as_str() == want.as_str() && back.is_some())
-}
+/// Lists of words that are types.
+const TYPES: [&str; 14] = [
+    r#"["var a$1"]"#,
+    r#"["app","var f","con Prim.Int"]"#,
+    r#"["app","var g","app","var f","con Prim.Int"]"#,
+    r#"["app","app","var f","con Prim.Int","var b"]"#,
+    r#"["forall r","R","T","var r"]"#,
+    r#"["forall k","F","S","C","var k"]"#,
+    r#"["forall k","F","F","T","T","T","var k"]"#,
+    r#"["nil"]"#,
+    r#"["row l","con Prim.Int","row two words","var a","nil"]"#,
+    r#"["row ","var a","var r"]"#,
+    r#"["sym a \"b\" c"]"#,
+    r#"["sym "]"#,
+    r#"["given","con A.B.C","var a"]"#,
+    r#"["given","app","app","con A.B.C","var a","app","var f","var b","var c"]"#,
+];
 
 #[test]
 fn each_form_of_type_has_its_words(rt: HostRuntime) -> Result<(), Fail> {
-    let make = Make { alloc: rt.alloc() };
-    let int = Ty::Con(make.name("Prim", "Int")?);
-    let row_kind = Kind::RowOf(Shared::new(make.alloc, Kind::Star)?);
-    let arrow_kind = Kind::Arrow(
-        Shared::new(make.alloc, Kind::Sym)?,
-        Shared::new(make.alloc, Kind::Constr)?,
-    );
-    assert!(rt; is_written_as(make, make.var("a$1")?, r#"["var a$1"]"#)?);
-    assert!(rt; is_written_as(make, int.clone()?, r#"["con Prim.Int"]"#)?);
-    let applied = make.app(make.var("f")?, int.clone()?)?;
-    assert!(rt; is_written_as(make, applied.clone()?, r#"["app","var f","con Prim.Int"]"#)?);
-    let nested = make.app(make.var("g")?, applied.clone()?)?;
-    assert!(rt;
-        is_written_as(
-            make,
-            nested,
-            r#"["app","var g","app","var f","con Prim.Int"]"#
-        )?
-    );
-    let left = make.app(applied, make.var("b")?)?;
-    assert!(rt;
-        is_written_as(
-            make,
-            left,
-            r#"["app","app","var f","con Prim.Int","var b"]"#
-        )?
-    );
-    let rows = make.forall("r", row_kind, make.var("r")?)?;
-    assert!(rt; is_written_as(make, rows, r#"["forall r","R","T","var r"]"#)?);
-    let arrows = make.forall("k", arrow_kind, make.var("k")?)?;
-    assert!(rt; is_written_as(make, arrows, r#"["forall k","F","S","C","var k"]"#)?);
-    assert!(rt; is_written_as(make, Ty::RowNil, r#"["nil"]"#)?);
-    let row = make.cons(
-        "l",
-        int.clone()?,
-        make.cons("two words", make.var("a")?, Ty::RowNil)?,
-    )?;
-    assert!(rt;
-        is_written_as(
-            make,
-            row,
-            r#"["row l","con Prim.Int","row two words","var a","nil"]"#
-        )?
-    );
-    let symbol = Ty::Symbol(make.text("a \"b\" c")?);
-    assert!(rt; is_written_as(make, symbol, r#"["sym a \"b\" c"]"#)?);
-    let empty = Ty::Symbol(make.text("")?);
-    assert!(rt; is_written_as(make, empty, r#"["sym "]"#)?);
+    let text = joined(rt.alloc(), &EXTERNS)?;
+    for words in TYPES {
+        match edited(rt.alloc(), text.as_str(), r#"["con Prim.Int"]"#, words)? {
+            Some(other) => assert!(rt; read(rt.alloc(), other.as_bytes())?.is_some(), "{words}"),
+            None => return Err(Fail::new(words)),
+        }
+    }
     Ok(())
 }
 
+/// `forall a. C a => a -> ( l :: "s" | r )`, as an interface file holds it.
+fn sample(alloc: Global) -> Result<Ty, NoMemory> {
+    let a = Ty::Var(Ident(Text::new(alloc, "a")?));
+    let class = name(alloc, "A.B", "C")?;
+    let mut args = Vec::new(alloc);
+    args.push(a.clone()?)?;
+    let args = SharedItems::from_vec(alloc, args)?;
+    let label = Label(Text::new(alloc, "l")?);
+    let symbol = Shared::new(alloc, Ty::Symbol(Text::new(alloc, "s")?))?;
+    let tail = Shared::new(alloc, Ty::Var(Ident(Text::new(alloc, "r")?)))?;
+    let row = Shared::new(alloc, Ty::RowCons(label, symbol, tail))?;
+    let arrow = Shared::new(alloc, Ty::Con(name(alloc, "Prim", "Function")?))?;
+    let from = Shared::new(alloc, Ty::App(arrow, Shared::new(alloc, a)?))?;
+    let body = Shared::new(alloc, Ty::App(from, row))?;
+    let given = Shared::new(alloc, Ty::Given(Constraint { class, args }, body))?;
+    let kind = Kind::RowOf(Shared::new(alloc, Kind::Star)?);
+    Ok(Ty::Forall(Ident(Text::new(alloc, "a")?), kind, given))
+}
+
+fn name(alloc: Global, module: &str, name: &str) -> Result<Qualified, NoMemory> {
+    Ok(Qualified {
+        module: read_module_name(alloc, module)?,
+        name: Text::new(alloc, name)?,
+    })
+}
+
+/// The interface file above with one value of this type.
+fn with_value(alloc: Global, ty: Ty) -> Result<Option<Externs>, NoMemory> {
+    let text = joined(alloc, &EXTERNS)?;
+    let (name, x_type) = (Name::new(Text::new(alloc, "x")?), ExternType::new(ty));
+    match (read(alloc, text.as_bytes())?, name, x_type) {
+        (Some(externs), Some(name), Some(x_type)) => {
+            let mut rows = Vec::new(alloc);
+            rows.push(ValueRow { name, x_type })?;
+            let values = SharedItems::from_vec(alloc, rows)?;
+            Ok(Some(Externs { values, ..externs }))
+        }
+        _ => Ok(None),
+    }
+}
+
 #[test]
-fn a_constraint_is_its_class_applied(rt: HostRuntime) -> Result<(), Fail> {
-    let make = Make { alloc: rt.alloc() };
-    let none = make.given(Vec::new(make.alloc), make.var("a")?)?;
-    assert!(rt; is_written_as(make, none, r#"["given","con A.B.C","var a"]"#)?);
-    let mut args = Vec::new(make.alloc);
-    args.push(make.var("a")?)?;
-    args.push(make.app(make.var("f")?, make.var("b")?)?)?;
-    let two = make.given(args, make.var("c")?)?;
-    let words = r#"["given","app","app","con A.B.C","var a","app","var f","var b","var c"]"#;
-    assert!(rt; is_written_as(make, two, words)?);
+fn a_type_is_written_as_its_words(rt: HostRuntime) -> Result<(), Fail> {
+    let Some(externs) = with_value(rt.alloc(), sample(rt.alloc())?)? else {
+        return Err(Fail::new("no such file"));
+    };
+    let words =
+        r#"["forall a","R","T","given","app","con A.B.C","var a","app","app","con Prim.Function","var a","row l","sym s","var r"]"#;
+    let text = joined(rt.alloc(), &EXTERNS)?;
+    let want = edited(rt.alloc(), text.as_str(), r#"["con Prim.Int"]"#, words)?;
+    let Some(want) = want else {
+        return Err(Fail::new("no such text"));
+    };
+    assert_eq!(rt; write(rt.alloc(), &externs)?.as_str(), want.as_str());
     Ok(())
 }
 
 #[test]
 fn what_no_interface_file_holds_is_refused(rt: HostRuntime) -> Result<(), Fail> {
-    let make = Make { alloc: rt.alloc() };
+    let alloc = rt.alloc();
     assert!(rt; ExternType::new(Ty::Unknown(0)).is_none());
     assert!(rt; ExternType::new(Ty::Any(Kind::Star)).is_none());
-    assert!(rt; ExternType::new(Ty::Con(make.name("", "Int")?)).is_none());
-    assert!(rt; ExternType::new(make.var("a.b")?).is_none());
-    assert!(rt; ExternType::new(make.var("")?).is_none());
-    let unknown = make.forall("a", Kind::Unknown(1), make.var("a")?)?;
-    assert!(rt; ExternType::new(unknown).is_none());
-    assert!(rt; Name::new(make.text("a.b")?).is_none());
-    Ok(())
-}
-
-#[test]
-fn entities_tell_their_space(rt: HostRuntime) -> Result<(), Fail> {
-    let make = Make { alloc: rt.alloc() };
-    let Some(name) = Name::new(make.text("x")?) else {
-        return Err(Fail::new("no name"));
-    };
-    let entity = Entity::Value(name);
-    assert!(rt; entity.space() == Space::Value);
-    assert_eq!(rt; entity.text().as_str(), "x");
+    assert!(rt; ExternType::new(Ty::Con(name(alloc, "", "Int")?)).is_none());
+    assert!(rt; ExternType::new(Ty::Var(Ident(Text::new(alloc, "a.b")?))).is_none());
+    assert!(rt; ExternType::new(Ty::Var(Ident(Text::new(alloc, "")?))).is_none());
+    assert!(rt; Name::new(Text::new(alloc, "a.b")?).is_none());
     Ok(())
 }

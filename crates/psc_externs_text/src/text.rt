@@ -1,34 +1,53 @@
 //! The whole texts.
 
-ghost use Rattle.std.specs.Prelude.{◌≡◌, false, IfOk, IfSome};
+ghost use Rattle.std.specs.Prelude.{◌≡◌, ◌↔◌, true, IfOk, Some, option_map};
+ghost use Rattle.std.specs.Str.{IsUtf8};
+ghost use Rattle.serde_json.specs.Data.{Data};
+ghost use Rattle.serde_json.specs.Read.{read as read_text};
 ghost use Rattle.serde_json.specs.View.{view};
-ghost use Rattle.serde_json.specs.Written.{has_float};
+ghost use Rattle.psc_externs.specs.declared.externs.Externs.{Externs};
+ghost use Rattle.psc_externs.specs.declared.places.Places.{Places};
+ghost use Rattle.psc_externs_text.specs.Kept.{is_interface, are_places};
 ghost use Rattle.psc_externs_text.specs.Texts as spec;
 
+use crate::kept::kept_module;
 use crate::row::{list_member, list_value, member};
-use psc_externs::{Externs, Places};
+use psc_externs::{
+    ClassRow, ConstructorRow, DeclRow, ExportRow, Externs, FixityRow, InstanceRow, Places,
+    SynonymRow, TypeRow, UseRow, ValueRow,
+};
+use psc_items::SharedItems;
 use psc_text::{ModuleName, NoMemory, Text};
 use serde_json::{Value, json};
 use std::alloc::Global;
 
 /// The text of an interface file.
 pub fn write(alloc: Global, externs: &Externs) -> Result<Text, NoMemory>
-    ensures { IfOk result (λ text. text ≡ spec.externs_text externs.now) }
+    ensures text { IfOk result (λ text. text ≡ spec.externs_text externs.now) }
+    ensures kept { IfOk result (λ _. is_interface externs.now ≡ true) }
 {
     let value = externs_value(alloc, externs)?;
     Text::from_string(value.to_string(alloc)?)
 }
 
-/// The interface file that has this text. None where the bytes are not a text that `write` gives.
+/// The interface file that has this text. None exactly where the bytes are not a text that `write` gives.
 pub fn read(alloc: Global, bytes: &[u8]) -> Result<Option<Externs>, NoMemory>
-    ensures { IfOk result (λ read. IfSome read (λ externs. spec.externs_text externs ≡ bytes.now)) }
+    ensures exactly { IfOk result (λ read. (e : Externs) → (read ≡ Some e) ↔ ((is_interface e ≡ true) × (spec.externs_text e ≡ bytes.now))) }
 {
-    let Some(value) = read_value(alloc, bytes)? else {
-        return Ok(None);
-    };
-    let Some(externs) = read_externs(alloc, &value)? else {
-        return Ok(None);
-    };
+    match read_value(alloc, bytes)? {
+        Some(value) => match read_externs(alloc, &value)? {
+            Some(externs) => externs_if_same(alloc, externs, bytes),
+            None => Ok(None),
+        },
+        None => Ok(None),
+    }
+}
+
+/// The interface file, where its text is these bytes.
+fn externs_if_same(alloc: Global, externs: Externs, bytes: &[u8]) -> Result<Option<Externs>, NoMemory>
+    ensures sound { IfOk result (λ o. (e : Externs) → o ≡ Some e → (is_interface e ≡ true) × (spec.externs_text e ≡ bytes.now)) }
+    ensures whole { IfOk result (λ o. spec.externs_text externs ≡ bytes.now → o ≡ Some externs) }
+{
     let text = write(alloc, &externs)?;
     if text.as_str().as_bytes() == bytes {
         Ok(Some(externs))
@@ -39,22 +58,31 @@ pub fn read(alloc: Global, bytes: &[u8]) -> Result<Option<Externs>, NoMemory>
 
 /// The text of a file of places.
 pub fn write_places(alloc: Global, places: &Places) -> Result<Text, NoMemory>
-    ensures { IfOk result (λ text. text ≡ spec.places_text places.now) }
+    ensures text { IfOk result (λ text. text ≡ spec.places_text places.now) }
+    ensures kept { IfOk result (λ _. are_places places.now ≡ true) }
 {
     let value = places_value(alloc, places)?;
     Text::from_string(value.to_string(alloc)?)
 }
 
-/// The places that have this text. None where the bytes are not a text that `write_places` gives.
+/// The places that have this text. None exactly where the bytes are not a text that `write_places` gives.
 pub fn read_places(alloc: Global, bytes: &[u8]) -> Result<Option<Places>, NoMemory>
-    ensures { IfOk result (λ read. IfSome read (λ places. spec.places_text places ≡ bytes.now)) }
+    ensures exactly { IfOk result (λ read. (p : Places) → (read ≡ Some p) ↔ ((are_places p ≡ true) × (spec.places_text p ≡ bytes.now))) }
 {
-    let Some(value) = read_value(alloc, bytes)? else {
-        return Ok(None);
-    };
-    let Some(places) = places_of(alloc, &value)? else {
-        return Ok(None);
-    };
+    match read_value(alloc, bytes)? {
+        Some(value) => match read_members(alloc, &value)? {
+            Some(places) => places_if_same(alloc, places, bytes),
+            None => Ok(None),
+        },
+        None => Ok(None),
+    }
+}
+
+/// The places, where their text is these bytes.
+fn places_if_same(alloc: Global, places: Places, bytes: &[u8]) -> Result<Option<Places>, NoMemory>
+    ensures sound { IfOk result (λ o. (p : Places) → o ≡ Some p → (are_places p ≡ true) × (spec.places_text p ≡ bytes.now)) }
+    ensures whole { IfOk result (λ o. spec.places_text places ≡ bytes.now → o ≡ Some places) }
+{
     let text = write_places(alloc, &places)?;
     if text.as_str().as_bytes() == bytes {
         Ok(Some(places))
@@ -64,7 +92,9 @@ pub fn read_places(alloc: Global, bytes: &[u8]) -> Result<Option<Places>, NoMemo
 }
 
 /// The JSON value of the bytes. None where they are not JSON.
-fn read_value(alloc: Global, bytes: &[u8]) -> Result<Option<Value>, NoMemory> {
+fn read_value(alloc: Global, bytes: &[u8]) -> Result<Option<Value>, NoMemory>
+    ensures { IfOk result (λ o. (d : Data) → IsUtf8 bytes.now → read_text bytes.now ≡ Some d → option_map (λ v. view v) o ≡ Some d) }
+{
     match Value::from_slice(alloc, bytes) {
         Ok(value) => Ok(Some(value)),
         Err(error) => {
@@ -79,7 +109,7 @@ fn read_value(alloc: Global, bytes: &[u8]) -> Result<Option<Value>, NoMemory> {
 
 fn externs_value(alloc: Global, externs: &Externs) -> Result<Value, NoMemory>
     ensures text { IfOk result (λ v. view v ≡ spec.externs externs.now) }
-    ensures plain { IfOk result (λ v. has_float (view v) ≡ false) }
+    ensures kept { IfOk result (λ _. is_interface externs.now ≡ true) }
 {
     let classes = list_value(alloc, externs.classes.as_slice())?;
     let constructors = list_value(alloc, externs.constructors.as_slice())?;
@@ -97,7 +127,7 @@ fn externs_value(alloc: Global, externs: &Externs) -> Result<Value, NoMemory>
         "fixities": fixities,
         "imports": imports,
         "instances": instances,
-        "module": externs.module.as_str(),
+        "module": kept_module(&externs.module),
         "synonyms": synonyms,
         "types": types,
         "values": values,
@@ -107,76 +137,87 @@ fn externs_value(alloc: Global, externs: &Externs) -> Result<Value, NoMemory>
 
 fn places_value(alloc: Global, places: &Places) -> Result<Value, NoMemory>
     ensures text { IfOk result (λ v. view v ≡ spec.places places.now) }
-    ensures plain { IfOk result (λ v. has_float (view v) ≡ false) }
+    ensures kept { IfOk result (λ _. are_places places.now ≡ true) }
 {
     let decls = list_value(alloc, places.decls.as_slice())?;
     let uses = list_value(alloc, places.uses.as_slice())?;
     Ok(json!(in alloc; {
         "decls": decls,
-        "module": places.module.as_str(),
+        "module": kept_module(&places.module),
         "uses": uses,
         "version": 1u8
     })?)
 }
 
-fn read_externs(alloc: Global, value: &Value) -> Result<Option<Externs>, NoMemory> {
-    let Some(classes) = list_member(alloc, value, "classes")? else {
-        return Ok(None);
+fn read_externs(alloc: Global, value: &Value) -> Result<Option<Externs>, NoMemory>
+    ensures { IfOk result (λ o. (e : Externs) → is_interface e ≡ true → view value.now ≡ spec.externs e → o ≡ Some e) }
+{
+    let parts = Parts {
+        classes: list_member(alloc, value, "classes")?,
+        constructors: list_member(alloc, value, "constructors")?,
+        exports: list_member(alloc, value, "exports")?,
+        fixities: list_member(alloc, value, "fixities")?,
+        imports: list_member(alloc, value, "imports")?,
+        instances: list_member(alloc, value, "instances")?,
+        module: member(alloc, value, "module")?,
+        synonyms: list_member(alloc, value, "synonyms")?,
+        types: list_member(alloc, value, "types")?,
+        values: list_member(alloc, value, "values")?,
     };
-    let Some(constructors) = list_member(alloc, value, "constructors")? else {
-        return Ok(None);
-    };
-    let Some(exports) = list_member(alloc, value, "exports")? else {
-        return Ok(None);
-    };
-    let Some(fixities) = list_member(alloc, value, "fixities")? else {
-        return Ok(None);
-    };
-    let Some(imports) = list_member(alloc, value, "imports")? else {
-        return Ok(None);
-    };
-    let Some(instances) = list_member(alloc, value, "instances")? else {
-        return Ok(None);
-    };
-    let Some(module) = member(alloc, value, "module")? else {
-        return Ok(None);
-    };
-    let Some(synonyms) = list_member(alloc, value, "synonyms")? else {
-        return Ok(None);
-    };
-    let Some(types) = list_member(alloc, value, "types")? else {
-        return Ok(None);
-    };
-    let Some(values) = list_member(alloc, value, "values")? else {
-        return Ok(None);
-    };
-    Ok(Some(Externs {
-        classes,
-        constructors,
-        exports,
-        fixities,
-        imports,
-        instances,
-        module,
-        synonyms,
-        types,
-        values,
-    }))
+    Ok(externs_of(parts))
 }
 
-fn places_of(alloc: Global, value: &Value) -> Result<Option<Places>, NoMemory> {
-    let Some(decls) = list_member(alloc, value, "decls")? else {
-        return Ok(None);
-    };
-    let Some(module) = member(alloc, value, "module")? else {
-        return Ok(None);
-    };
-    let Some(uses) = list_member(alloc, value, "uses")? else {
-        return Ok(None);
-    };
-    Ok(Some(Places {
-        decls,
-        module,
-        uses,
-    }))
+/// What the members of an interface file are read as.
+#[derive(Drop)]
+struct Parts {
+    classes: Option<SharedItems<ClassRow>>,
+    constructors: Option<SharedItems<ConstructorRow>>,
+    exports: Option<SharedItems<ExportRow>>,
+    fixities: Option<SharedItems<FixityRow>>,
+    imports: Option<SharedItems<ModuleName>>,
+    instances: Option<SharedItems<InstanceRow>>,
+    module: Option<ModuleName>,
+    synonyms: Option<SharedItems<SynonymRow>>,
+    types: Option<SharedItems<TypeRow>>,
+    values: Option<SharedItems<ValueRow>>,
+}
+
+fn externs_of(parts: Parts) -> Option<Externs>
+    ensures { (e : Externs) → parts.classes ≡ Some e.classes → parts.constructors ≡ Some e.constructors → parts.exports ≡ Some e.exports → parts.fixities ≡ Some e.fixities → parts.imports ≡ Some e.imports → parts.instances ≡ Some e.instances → parts.«module» ≡ Some e.«module» → parts.synonyms ≡ Some e.synonyms → parts.types ≡ Some e.types → parts.values ≡ Some e.values → result ≡ Some e }
+{
+    Some(Externs {
+        classes: parts.classes?,
+        constructors: parts.constructors?,
+        exports: parts.exports?,
+        fixities: parts.fixities?,
+        imports: parts.imports?,
+        instances: parts.instances?,
+        module: parts.module?,
+        synonyms: parts.synonyms?,
+        types: parts.types?,
+        values: parts.values?,
+    })
+}
+
+fn read_members(alloc: Global, value: &Value) -> Result<Option<Places>, NoMemory>
+    ensures { IfOk result (λ o. (p : Places) → are_places p ≡ true → view value.now ≡ spec.places p → o ≡ Some p) }
+{
+    let decls = list_member(alloc, value, "decls")?;
+    let module = member(alloc, value, "module")?;
+    let uses = list_member(alloc, value, "uses")?;
+    Ok(places_of(decls, module, uses))
+}
+
+fn places_of(
+    decls: Option<SharedItems<DeclRow>>,
+    module: Option<ModuleName>,
+    uses: Option<SharedItems<UseRow>>,
+) -> Option<Places>
+    ensures { (p : Places) → decls ≡ Some p.decls → «module» ≡ Some p.«module» → uses ≡ Some p.uses → result ≡ Some p }
+{
+    Some(Places {
+        decls: decls?,
+        module: module?,
+        uses: uses?,
+    })
 }

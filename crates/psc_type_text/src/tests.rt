@@ -1,4 +1,6 @@
 //! Texts of types and kinds, whole, against texts that were written by hand.
+//!
+//! A row has a type as words, each before its parts and with `;` between them, and the text that it has.
 
 use crate::{kind_text, type_text};
 use psc_items::{Shared, SharedItems};
@@ -7,310 +9,348 @@ use psc_type::{Constraint, Kind, Ty};
 use std::alloc::Global;
 use std::test::Fail;
 
-/// Makes types from what they consist of.
+/// Makes types from their words.
 #[derive(Clone, Copy)]
 struct Make {
     alloc: Global,
 }
 
 impl Make {
-    fn text(self, text: &str) -> Result<Text, NoMemory> {
-        Text::new(self.alloc, text)
-    }
-
-    fn shared(self, ty: Ty) -> Result<Shared<Ty>, NoMemory> {
-        Ok(Shared::new(self.alloc, ty)?)
-    }
-
     fn name(self, module: &str, name: &str) -> Result<Qualified, NoMemory> {
         Ok(Qualified {
             module: read_module_name(self.alloc, module)?,
-            name: self.text(name)?,
+            name: Text::new(self.alloc, name)?,
         })
     }
 
-    fn var(self, name: &str) -> Result<Ty, NoMemory> {
-        Ok(Ty::Var(Ident(self.text(name)?)))
-    }
-
-    fn prim(self, name: &str) -> Result<Ty, NoMemory> {
-        Ok(Ty::Con(self.name("Prim", name)?))
-    }
-
-    fn con(self, name: &str) -> Result<Ty, NoMemory> {
-        Ok(Ty::Con(self.name("Data.Sample", name)?))
-    }
-
     fn app(self, function: Ty, argument: Ty) -> Result<Ty, NoMemory> {
-        Ok(Ty::App(self.shared(function)?, self.shared(argument)?))
-    }
-
-    fn arrow(self, from: Ty, to: Ty) -> Result<Ty, NoMemory> {
-        self.app(self.app(self.prim("Function")?, from)?, to)
+        let function = Shared::new(self.alloc, function)?;
+        Ok(Ty::App(function, Shared::new(self.alloc, argument)?))
     }
 
     fn forall(self, name: &str, body: Ty) -> Result<Ty, NoMemory> {
-        Ok(Ty::Forall(Ident(self.text(name)?), Kind::Star, self.shared(body)?))
+        let name = Ident(Text::new(self.alloc, name)?);
+        Ok(Ty::Forall(name, Kind::Star, Shared::new(self.alloc, body)?))
     }
 
-    fn given(self, class: &str, args: Vec<Ty>, body: Ty) -> Result<Ty, NoMemory> {
+    /// A class without arguments.
+    fn given_none(self, class: &str, body: Ty) -> Result<Ty, NoMemory> {
         let class = self.name("Data.Sample", class)?;
-        let args = SharedItems::from_vec(self.alloc, args)?;
-        Ok(Ty::Given(Constraint { class, args }, self.shared(body)?))
+        let args = SharedItems::from_vec(self.alloc, Vec::new(self.alloc))?;
+        Ok(Ty::Given(Constraint { class, args }, Shared::new(self.alloc, body)?))
     }
 
-    fn eq(self, arg: Ty, body: Ty) -> Result<Ty, NoMemory> {
+    /// A class of one argument.
+    fn given_one(self, class: &str, argument: Ty, body: Ty) -> Result<Ty, NoMemory> {
+        let class = self.name("Data.Sample", class)?;
         let mut args = Vec::new(self.alloc);
-        args.push(arg)?;
-        self.given("Eq", args, body)
+        args.push(argument)?;
+        let args = SharedItems::from_vec(self.alloc, args)?;
+        Ok(Ty::Given(Constraint { class, args }, Shared::new(self.alloc, body)?))
     }
 
-    fn cons(self, label: &str, ty: Ty, rest: Ty) -> Result<Ty, NoMemory> {
-        let label = Label(self.text(label)?);
-        Ok(Ty::RowCons(label, self.shared(ty)?, self.shared(rest)?))
+    fn row(self, label: &str, first: Ty, rest: Ty) -> Result<Ty, NoMemory> {
+        let label = Label(Text::new(self.alloc, label)?);
+        let first = Shared::new(self.alloc, first)?;
+        Ok(Ty::RowCons(label, first, Shared::new(self.alloc, rest)?))
+    }
+
+    fn arrow(self, from: Ty, to: Ty) -> Result<Ty, NoMemory> {
+        let function = Ty::Con(self.name("Prim", "Function")?);
+        self.app(self.app(function, from)?, to)
     }
 
     fn record(self, row: Ty) -> Result<Ty, NoMemory> {
-        self.app(self.prim("Record")?, row)
+        self.app(Ty::Con(self.name("Prim", "Record")?), row)
     }
 
-    fn int(self) -> Result<Ty, NoMemory> {
-        self.prim("Int")
-    }
-
-    fn maybe(self, of: Ty) -> Result<Ty, NoMemory> {
-        self.app(self.con("Maybe")?, of)
-    }
-
-    /// A type of this many nodes.
-    fn of_size(self, nodes: u32) -> Result<Ty, NoMemory> {
-        if nodes < 2 {
-            self.con("N")
-        } else if nodes == 2 {
-            self.forall("a", self.con("N")?)
-        } else {
-            let left = (nodes - 1) / 2;
-            self.app(self.of_size(left)?, self.of_size(nodes - 1 - left)?)
+    /// What a word without a name makes of its parts.
+    fn bare(self, word: &str, stack: &mut Vec<Ty>) -> Result<Option<Ty>, NoMemory> {
+        match word {
+            "nil" => return Ok(Some(Ty::RowNil)),
+            "unknown" => return Ok(Some(Ty::Unknown(7))),
+            "any" => return Ok(Some(Ty::Any(Kind::Star))),
+            _ => {}
         }
+        let Some(first) = stack.pop() else {
+            return Ok(None);
+        };
+        if word == "record" {
+            return Ok(Some(self.record(first)?));
+        }
+        match (word, stack.pop()) {
+            ("->", Some(second)) => Ok(Some(self.arrow(first, second)?)),
+            ("app", Some(second)) => Ok(Some(self.app(first, second)?)),
+            _ => Ok(None),
+        }
+    }
+
+    /// What a word with a name makes of its parts.
+    fn named(self, word: &str, name: &str, stack: &mut Vec<Ty>) -> Result<Option<Ty>, NoMemory> {
+        match word {
+            "var" => return Ok(Some(Ty::Var(Ident(Text::new(self.alloc, name)?)))),
+            "con" => return Ok(Some(Ty::Con(self.name("Data.Sample", name)?))),
+            "prim" => return Ok(Some(Ty::Con(self.name("Prim", name)?))),
+            "sym" => return Ok(Some(Ty::Symbol(Text::new(self.alloc, name)?))),
+            _ => {}
+        }
+        let Some(first) = stack.pop() else {
+            return Ok(None);
+        };
+        match word {
+            "forall" => return Ok(Some(self.forall(name, first)?)),
+            "given" => return Ok(Some(self.given_none(name, first)?)),
+            _ => {}
+        }
+        match (word, stack.pop()) {
+            ("class", Some(second)) => Ok(Some(self.given_one(name, first, second)?)),
+            ("row", Some(second)) => Ok(Some(self.row(name, first, second)?)),
+            _ => Ok(None),
+        }
+    }
+
+    /// The type that has these words.
+    fn ty(self, words: &str) -> Result<Option<Ty>, NoMemory> {
+        let mut stack = Vec::new(self.alloc);
+        for word in words.rsplit(';') {
+            let made = match word.split_once(' ') {
+                Some((word, name)) => self.named(word, name, &mut stack)?,
+                None => self.bare(word, &mut stack)?,
+            };
+            match made {
+                Some(ty) => stack.push(ty)?,
+                None => return Ok(None),
+            }
+        }
+        Ok(stack.pop())
+    }
+
+    fn shows(self, words: &str, want: &str) -> Result<bool, NoMemory> {
+        match self.ty(words)? {
+            Some(ty) => Ok(type_text(self.alloc, &ty)?.as_str() == want),
+            None => Ok(false),
+        }
+    }
+
+    /// A name applied to itself, that to itself, and so on: 2 ^ (times + 1) - 1 nodes.
+    fn doubled(self, times: u32) -> Result<Ty, NoMemory> {
+        let mut ty = Ty::Con(self.name("Data.Sample", "N")?);
+        for _ in 0..times {
+            ty = self.app(ty.clone()?, ty)?;
+        }
+        Ok(ty)
+    }
+
+    /// A type of 19,999 nodes and so many more.
+    fn large(self, more: u32) -> Result<Ty, NoMemory> {
+        let mut ty = self.doubled(13)?;
+        for times in [10, 9, 8, 4] {
+            ty = self.app(ty, self.doubled(times)?)?;
+        }
+        for _ in 0..more {
+            ty = self.forall("a", ty)?;
+        }
+        Ok(ty)
     }
 }
 
-fn shows(make: Make, ty: &Ty, want: &str) -> Result<bool, NoMemory> {
-    Ok(type_text(make.alloc, ty)?.as_str() == want)
+/// The first row whose type has another text.
+fn first_wrong<'a>(
+    alloc: Global,
+    rows: &[(&'a str, &'a str)],
+) -> Result<Option<&'a str>, NoMemory> {
+    let make = Make { alloc };
+    for (words, want) in rows {
+        if !make.shows(*words, *want)? {
+            return Ok(Some(*want));
+        }
+    }
+    Ok(None)
 }
 
 #[test]
 fn names_are_printed_without_their_module(rt: HostRuntime) -> Result<(), Fail> {
-    let make = Make { alloc: rt.alloc() };
-    assert!(rt; shows(make, &make.var("a")?, "a")?);
-    assert!(rt; shows(make, &make.int()?, "Int")?);
-    assert!(rt; shows(make, &make.con("Maybe")?, "Maybe")?);
-    assert!(rt; shows(make, &make.maybe(make.int()?)?, "Maybe Int")?);
+    let rows = [
+        ("var a", "a"),
+        ("prim Int", "Int"),
+        ("con Maybe", "Maybe"),
+        ("app;con Maybe;prim Int", "Maybe Int"),
+        ("prim Record", "Record"),
+        ("prim Function", "Function"),
+    ];
+    assert_eq!(rt; first_wrong(rt.alloc(), &rows)?, None);
     Ok(())
 }
 
 #[test]
 fn a_rigid_variable_is_printed_without_its_number(rt: HostRuntime) -> Result<(), Fail> {
-    let make = Make { alloc: rt.alloc() };
-    assert!(rt; shows(make, &make.var("a$12")?, "a")?);
-    let ty = make.arrow(make.var("é$0")?, make.var("b$1")?)?;
-    assert!(rt; shows(make, &ty, "é -> b")?);
-    assert!(rt; shows(make, &make.forall("a$3", make.var("a$3")?)?, "forall a. a")?);
+    let rows = [
+        ("var a$12", "a"),
+        ("->;var é$0;var b$1", "é -> b"),
+        ("forall a$3;var a$3", "forall a. a"),
+    ];
+    assert_eq!(rt; first_wrong(rt.alloc(), &rows)?, None);
     Ok(())
 }
 
 #[test]
 fn what_is_not_known_is_a_blank(rt: HostRuntime) -> Result<(), Fail> {
-    let make = Make { alloc: rt.alloc() };
-    assert!(rt; shows(make, &Ty::Unknown(7), "_")?);
-    assert!(rt; shows(make, &Ty::Any(Kind::Star), "_")?);
-    assert!(rt; shows(make, &make.maybe(Ty::Unknown(0))?, "Maybe _")?);
+    let rows = [
+        ("unknown", "_"),
+        ("any", "_"),
+        ("app;con Maybe;unknown", "Maybe _"),
+        ("record;unknown", "{ | _ }"),
+    ];
+    assert_eq!(rt; first_wrong(rt.alloc(), &rows)?, None);
     Ok(())
 }
 
 #[test]
-fn arguments_that_are_applications_are_in_parentheses(rt: HostRuntime) -> Result<(), Fail> {
-    let make = Make { alloc: rt.alloc() };
-    let nested = make.maybe(make.maybe(make.int()?)?)?;
-    assert!(rt; shows(make, &nested, "Maybe (Maybe Int)")?);
-    let pair = make.app(make.app(make.con("Either")?, make.int()?)?, make.var("a")?)?;
-    assert!(rt; shows(make, &pair, "Either Int a")?);
-    assert!(rt; shows(make, &make.maybe(pair)?, "Maybe (Either Int a)")?);
-    let arrow = make.arrow(make.int()?, make.int()?)?;
-    assert!(rt; shows(make, &make.maybe(arrow)?, "Maybe (Int -> Int)")?);
-    let quantified = make.maybe(make.forall("a", make.var("a")?)?)?;
-    assert!(rt; shows(make, &quantified, "Maybe (forall a. a)")?);
-    let part = make.app(make.prim("Function")?, make.int()?)?;
-    assert!(rt; shows(make, &part, "Function Int")?);
-    assert!(rt; shows(make, &make.maybe(part)?, "Maybe (Function Int)")?);
-    assert!(rt; shows(make, &make.maybe(make.prim("Function")?)?, "Maybe Function")?);
+fn arguments_stand_in_parentheses_unless_they_are_one_name(rt: HostRuntime) -> Result<(), Fail> {
+    let rows = [
+        ("app;con M;app;con M;prim Int", "M (M Int)"),
+        ("app;app;con E;prim Int;var a", "E Int a"),
+        ("app;con M;app;app;con E;prim Int;var a", "M (E Int a)"),
+        ("app;con M;->;prim Int;prim Int", "M (Int -> Int)"),
+        ("app;con M;forall a;var a", "M (forall a. a)"),
+        ("app;con M;class Eq;var a;var a", "M (Eq a => a)"),
+        ("app;prim Function;prim Int", "Function Int"),
+        ("app;con M;app;prim Function;prim Int", "M (Function Int)"),
+        ("app;con M;prim Function", "M Function"),
+        ("app;con M;record;nil", "M {}"),
+        ("app;con M;nil", "M ()"),
+        ("app;con M;sym s", "M \"s\""),
+    ];
+    assert_eq!(rt; first_wrong(rt.alloc(), &rows)?, None);
     Ok(())
 }
 
 #[test]
 fn arrows_associate_to_the_right(rt: HostRuntime) -> Result<(), Fail> {
-    let make = Make { alloc: rt.alloc() };
-    let two = make.arrow(make.int()?, make.arrow(make.var("a")?, make.var("b")?)?)?;
-    assert!(rt; shows(make, &two, "Int -> a -> b")?);
-    let left = make.arrow(make.arrow(make.int()?, make.var("a")?)?, make.var("b")?)?;
-    assert!(rt; shows(make, &left, "(Int -> a) -> b")?);
-    let applied = make.arrow(make.maybe(make.int()?)?, make.maybe(make.var("a")?)?)?;
-    assert!(rt; shows(make, &applied, "Maybe Int -> Maybe a")?);
+    let rows = [
+        ("->;prim Int;->;var a;var b", "Int -> a -> b"),
+        ("->;->;prim Int;var a;var b", "(Int -> a) -> b"),
+        ("->;app;con M;prim Int;app;con M;var a", "M Int -> M a"),
+        ("->;forall a;var a;prim Int", "(forall a. a) -> Int"),
+        ("->;prim Int;forall a;var a", "Int -> forall a. a"),
+        ("->;class Eq;var a;var a;prim Int", "(Eq a => a) -> Int"),
+    ];
+    assert_eq!(rt; first_wrong(rt.alloc(), &rows)?, None);
     Ok(())
 }
 
 #[test]
-fn quantifiers_are_joined(rt: HostRuntime) -> Result<(), Fail> {
-    let make = Make { alloc: rt.alloc() };
-    let arrow = make.arrow(make.var("a")?, make.var("b")?)?;
-    let two = make.forall("a", make.forall("b", arrow)?)?;
-    assert!(rt; shows(make, &two, "forall a b. a -> b")?);
-    let left = make.arrow(make.forall("a", make.var("a")?)?, make.int()?)?;
-    assert!(rt; shows(make, &left, "(forall a. a) -> Int")?);
-    let right = make.arrow(make.int()?, make.forall("a", make.var("a")?)?)?;
-    assert!(rt; shows(make, &right, "Int -> forall a. a")?);
+fn quantifiers_are_joined_and_constraints_are_not(rt: HostRuntime) -> Result<(), Fail> {
+    let rows = [
+        ("forall a;forall b;->;var a;var b", "forall a b. a -> b"),
+        ("forall a;class Eq;var a;var a", "forall a. Eq a => a"),
+        ("class Eq;var a;->;var a;prim Int", "Eq a => a -> Int"),
+        (
+            "class Eq;var a;class Eq;app;con M;var b;prim Int",
+            "Eq a => Eq (M b) => Int",
+        ),
+        ("given Partial;prim Int", "Partial => Int"),
+    ];
+    assert_eq!(rt; first_wrong(rt.alloc(), &rows)?, None);
     Ok(())
 }
 
 #[test]
-fn constraints_stand_before_a_double_arrow(rt: HostRuntime) -> Result<(), Fail> {
-    let make = Make { alloc: rt.alloc() };
-    let eq = make.eq(make.var("a")?, make.arrow(make.var("a")?, make.int()?)?)?;
-    assert!(rt; shows(make, &eq, "Eq a => a -> Int")?);
-    let left = make.arrow(make.eq(make.var("a")?, make.var("a")?)?, make.int()?)?;
-    assert!(rt; shows(make, &left, "(Eq a => a) -> Int")?);
-    let two = make.eq(
-        make.var("a")?,
-        make.eq(make.maybe(make.var("b")?)?, make.int()?)?,
-    )?;
-    assert!(rt; shows(make, &two, "Eq a => Eq (Maybe b) => Int")?);
-    let all = make.forall("a", make.eq(make.var("a")?, make.var("a")?)?)?;
-    assert!(rt; shows(make, &all, "forall a. Eq a => a")?);
-    let none = make.given("Partial", Vec::new(make.alloc), make.int()?)?;
-    assert!(rt; shows(make, &none, "Partial => Int")?);
-    Ok(())
-}
-
-#[test]
-fn records_are_braces_round_their_rows(rt: HostRuntime) -> Result<(), Fail> {
-    let make = Make { alloc: rt.alloc() };
-    assert!(rt; shows(make, &make.record(Ty::RowNil)?, "{}")?);
-    assert!(rt; shows(make, &make.record(make.var("r")?)?, "{ | r }")?);
-    assert!(rt; shows(make, &make.record(Ty::Unknown(1))?, "{ | _ }")?);
-    let closed = make.cons("x", make.int()?, Ty::RowNil)?;
-    assert!(rt; shows(make, &make.record(closed)?, "{ x :: Int }")?);
-    let open = make.cons(
-        "x",
-        make.int()?,
-        make.cons("y", make.var("a")?, make.var("r")?)?,
-    )?;
-    assert!(rt; shows(make, &make.record(open)?, "{ x :: Int, y :: a | r }")?);
-    let field = make.cons("f", make.arrow(make.int()?, make.int()?)?, Ty::RowNil)?;
-    assert!(rt;
-        shows(
-            make,
-            &make.maybe(make.record(field)?)?,
-            "Maybe { f :: Int -> Int }"
-        )?
-    );
-    assert!(rt; shows(make, &make.prim("Record")?, "Record")?);
-    Ok(())
-}
-
-#[test]
-fn rows_alone_are_in_parentheses(rt: HostRuntime) -> Result<(), Fail> {
-    let make = Make { alloc: rt.alloc() };
-    assert!(rt; shows(make, &Ty::RowNil, "()")?);
-    let open = make.cons("x", make.int()?, make.var("r")?)?;
-    assert!(rt; shows(make, &open, "( x :: Int | r )")?);
-    assert!(rt; shows(make, &make.maybe(open)?, "Maybe ( x :: Int | r )")?);
-    assert!(rt; shows(make, &make.maybe(Ty::RowNil)?, "Maybe ()")?);
+fn records_are_braces_and_other_rows_parentheses(rt: HostRuntime) -> Result<(), Fail> {
+    let rows = [
+        ("record;nil", "{}"),
+        ("record;var r", "{ | r }"),
+        ("record;row x;prim Int;nil", "{ x :: Int }"),
+        (
+            "record;row x;prim Int;row y;var a;var r",
+            "{ x :: Int, y :: a | r }",
+        ),
+        (
+            "app;con M;record;row f;->;prim Int;prim Int;nil",
+            "M { f :: Int -> Int }",
+        ),
+        ("nil", "()"),
+        ("row x;prim Int;var r", "( x :: Int | r )"),
+        ("app;con M;row x;prim Int;var r", "M ( x :: Int | r )"),
+    ];
+    assert_eq!(rt; first_wrong(rt.alloc(), &rows)?, None);
     Ok(())
 }
 
 #[test]
 fn labels_stand_in_order_and_equal_ones_as_they_stood(rt: HostRuntime) -> Result<(), Fail> {
-    let make = Make { alloc: rt.alloc() };
-    let row = make.cons(
-        "b",
-        make.var("t")?,
-        make.cons("a", make.var("u")?, Ty::RowNil)?,
-    )?;
-    assert!(rt; shows(make, &make.record(row)?, "{ a :: u, b :: t }")?);
-    let last = make.cons("b", make.var("v")?, Ty::RowNil)?;
-    let twice = make.cons("b", make.var("t")?, make.cons("a", make.var("u")?, last)?)?;
-    assert!(rt; shows(make, &twice, "( a :: u, b :: t, b :: v )")?);
-    Ok(())
-}
-
-#[test]
-fn labels_that_are_no_lower_names_are_quoted(rt: HostRuntime) -> Result<(), Fail> {
-    let make = Make { alloc: rt.alloc() };
-    let rows: [(&str, &str); 8] = [
-        ("x'1_Y", "( x'1_Y :: Int )"),
-        ("_x", "( _x :: Int )"),
-        ("type", "( type :: Int )"),
-        ("_", "( \"_\" :: Int )"),
-        ("X", "( \"X\" :: Int )"),
-        ("two words", "( \"two words\" :: Int )"),
-        ("", "( \"\" :: Int )"),
-        ("q\"\\\n", "( \"q\\\"\\\\\\n\" :: Int )"),
+    let rows = [
+        ("record;row b;var t;row a;var u;nil", "{ a :: u, b :: t }"),
+        (
+            "row b;var t;row a;var u;row b;var v;nil",
+            "( a :: u, b :: t, b :: v )",
+        ),
     ];
-    for (label, want) in rows {
-        let row = make.cons(label, make.int()?, Ty::RowNil)?;
-        assert!(rt; shows(make, &row, want)?, "{label}");
-    }
+    assert_eq!(rt; first_wrong(rt.alloc(), &rows)?, None);
     Ok(())
 }
 
 #[test]
-fn symbols_are_json_strings(rt: HostRuntime) -> Result<(), Fail> {
-    let make = Make { alloc: rt.alloc() };
-    assert!(rt; shows(make, &Ty::Symbol(make.text("a b")?), "\"a b\"")?);
-    assert!(rt; shows(make, &Ty::Symbol(make.text("\"\t")?), "\"\\\"\\t\"")?);
-    let symbol = make.maybe(Ty::Symbol(make.text("s")?))?;
-    assert!(rt; shows(make, &symbol, "Maybe \"s\"")?);
+fn labels_that_are_no_lower_names_and_symbols_are_quoted(rt: HostRuntime) -> Result<(), Fail> {
+    let rows = [
+        ("row x'1_Y;prim Int;nil", "( x'1_Y :: Int )"),
+        ("row _x;prim Int;nil", "( _x :: Int )"),
+        ("row type;prim Int;nil", "( type :: Int )"),
+        ("row _;prim Int;nil", "( \"_\" :: Int )"),
+        ("row X;prim Int;nil", "( \"X\" :: Int )"),
+        ("row two words;prim Int;nil", "( \"two words\" :: Int )"),
+        ("row ;prim Int;nil", "( \"\" :: Int )"),
+        ("row q\"\\\n;prim Int;nil", "( \"q\\\"\\\\\\n\" :: Int )"),
+        ("sym a b", "\"a b\""),
+        ("sym \"\t", "\"\\\"\\t\""),
+    ];
+    assert_eq!(rt; first_wrong(rt.alloc(), &rows)?, None);
     Ok(())
 }
 
 #[test]
 fn a_type_of_more_than_20_000_nodes_is_a_blank(rt: HostRuntime) -> Result<(), Fail> {
     let make = Make { alloc: rt.alloc() };
-    assert!(rt; !shows(make, &make.of_size(20_000)?, "_")?);
-    assert!(rt; shows(make, &make.of_size(20_001)?, "_")?);
+    let most = type_text(rt.alloc(), &make.large(1)?)?;
+    assert_ne!(rt; most.as_str(), "_");
+    let over = type_text(rt.alloc(), &make.large(2)?)?;
+    assert_eq!(rt; over.as_str(), "_");
     Ok(())
+}
+
+/// Whether the kinds of rows and arrows over this one have these texts.
+fn kinds_show(alloc: Global, kind: &Kind, row: &str, arrow: &str) -> Result<bool, NoMemory> {
+    let of_rows = Kind::RowOf(Shared::new(alloc, kind.clone()?)?);
+    let from = Shared::new(alloc, kind.clone()?)?;
+    let arrows = Kind::Arrow(from, Shared::new(alloc, kind.clone()?)?);
+    Ok(kind_text(alloc, &of_rows)?.as_str() == row && kind_text(alloc, &arrows)?.as_str() == arrow)
 }
 
 #[test]
 fn kinds(rt: HostRuntime) -> Result<(), Fail> {
     let alloc = rt.alloc();
-    let row = |of: Kind| Shared::new(alloc, of);
-    let star_row = Kind::RowOf(row(Kind::Star)?);
-    let arrow = Kind::Arrow(row(Kind::Star)?, row(Kind::Star)?);
-    assert_eq!(rt; kind_text(alloc, &Kind::Star)?.as_str(), "Type");
-    assert_eq!(rt; kind_text(alloc, &Kind::Constr)?.as_str(), "Constraint");
-    assert_eq!(rt; kind_text(alloc, &Kind::Sym)?.as_str(), "Symbol");
-    assert_eq!(rt; kind_text(alloc, &Kind::Unknown(3))?.as_str(), "_");
-    assert_eq!(rt; kind_text(alloc, &star_row)?.as_str(), "Row Type");
-    assert_eq!(rt; kind_text(alloc, &arrow)?.as_str(), "Type -> Type");
-    let rows = Kind::RowOf(row(star_row)?);
-    assert_eq!(rt; kind_text(alloc, &rows)?.as_str(), "Row (Row Type)");
-    let to_rows = Kind::Arrow(row(rows)?, row(Kind::Sym)?);
-    assert_eq!(rt;
-        kind_text(alloc, &to_rows)?.as_str(),
-        "Row (Row Type) -> Symbol"
+    assert!(rt; kinds_show(alloc, &Kind::Star, "Row Type", "Type -> Type")?);
+    assert!(rt;
+        kinds_show(
+            alloc,
+            &Kind::Constr,
+            "Row Constraint",
+            "Constraint -> Constraint"
+        )?
     );
-    let row_of_arrows = Kind::RowOf(row(arrow.clone()?)?);
-    assert_eq!(rt;
-        kind_text(alloc, &row_of_arrows)?.as_str(),
-        "Row (Type -> Type)"
-    );
-    let left = Kind::Arrow(row(arrow.clone()?)?, row(Kind::Star)?);
-    assert_eq!(rt; kind_text(alloc, &left)?.as_str(), "(Type -> Type) -> Type");
-    let right = Kind::Arrow(row(Kind::Constr)?, row(arrow)?);
-    assert_eq!(rt;
-        kind_text(alloc, &right)?.as_str(),
-        "Constraint -> Type -> Type"
+    assert!(rt; kinds_show(alloc, &Kind::Sym, "Row Symbol", "Symbol -> Symbol")?);
+    assert!(rt; kinds_show(alloc, &Kind::Unknown(3), "Row _", "_ -> _")?);
+    let rows = Kind::RowOf(Shared::new(alloc, Kind::Star)?);
+    assert!(rt; kinds_show(alloc, &rows, "Row (Row Type)", "Row Type -> Row Type")?);
+    let from = Shared::new(alloc, Kind::Star)?;
+    let arrow = Kind::Arrow(from, Shared::new(alloc, Kind::Sym)?);
+    assert!(rt;
+        kinds_show(
+            alloc,
+            &arrow,
+            "Row (Type -> Symbol)",
+            "(Type -> Symbol) -> Type -> Symbol"
+        )?
     );
     Ok(())
 }
