@@ -1,0 +1,5 @@
+pub mod Made
+pub mod Evidence
+pub mod Binder
+pub mod Numbers
+pub mod Rows
