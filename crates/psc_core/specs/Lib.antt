@@ -3,3 +3,4 @@ pub mod Evidence
 pub mod Binder
 pub mod Numbers
 pub mod Rows
+pub mod Expr

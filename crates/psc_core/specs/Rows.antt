@@ -53,6 +53,11 @@ guard at (t ∷ ts) = guard_from at t ts
 abbrev pub guarded : Span → Branch → CoreGuarded
 guarded at b = record { guard = guard at b.tests; body = b.body }
 
+-- an alternative with guarded branches, of which one has a test `p <- e` or none
+abbrev pub row_of : Span → Bool → List CoreBinder → List Branch → Row
+row_of at true ps bs = Attempt ps bs
+row_of at false ps bs = Plain (record { binders = ps; outcome = outcome_of.Guarded (map (guarded at) bs) })
+
 -- names a place where the body goes on
 abbrev pub placed : Span → ℕ → CoreExpr → CoreExpr → CoreExpr
 placed at f e body = core.Let (plain at) (bound at (place_name f) (thunk at e) ∷ []) body

@@ -7,14 +7,17 @@
 
 mod binder;
 mod dictionary;
+mod erasure;
 mod evidence;
 mod group;
 mod made;
 mod numbers;
 mod rows;
+mod scan;
 mod typed;
 mod typed_binder;
 
+pub use erasure::erase;
 pub use evidence::Evidence;
 pub use group::{Draft, Member, Solved, TypedBind, Wants};
 pub use psc_core_tree::{

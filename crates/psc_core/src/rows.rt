@@ -78,7 +78,7 @@ fn failed(alloc: Global, at: Span, failure: Failure) -> Result<CoreExpr, NoMemor
     }
 }
 
-fn alternative(binders: Items<CoreBinder>, body: CoreExpr) -> CoreAlternative
+pub(crate) fn alternative(binders: Items<CoreBinder>, body: CoreExpr) -> CoreAlternative
     ensures { result ≡ spec.alternative binders body }
 {
     CoreAlternative {
@@ -135,7 +135,7 @@ fn tested(
 }
 
 /// The nested cases of tests, with what stands behind the last one.
-#[tactic(auto, using(crate::proofs::RowRules::nested_last))]
+#[tactic(auto, using(crate::proofs::RowRules::nested_last), unfolding(crate::specs::Rows::nested))]
 fn nested(
     alloc: Global,
     at: Span,
@@ -154,7 +154,7 @@ fn nested(
 }
 
 /// One boolean for the tests of a branch.
-#[tactic(auto, using(crate::proofs::RowRules::guard_last))]
+#[tactic(auto, using(crate::proofs::RowRules::guard_last), unfolding(crate::specs::Rows::guard))]
 fn guard(alloc: Global, at: Span, tests: Items<Test>) -> Result<CoreExpr, NoMemory>
     ensures { IfOk result (λ core. core ≡ spec.guard at tests) }
 {
@@ -174,7 +174,7 @@ fn guarded(alloc: Global, at: Span, branch: Branch) -> Result<CoreGuarded, NoMem
 }
 
 /// The branches of an alternative that CoreFn can say.
-pub(crate) fn guarded_ones(
+fn guarded_ones(
     alloc: Global,
     at: Span,
     branches: Items<Branch>,
@@ -187,6 +187,24 @@ pub(crate) fn guarded_ones(
         made.push(guarded(alloc, at, branch)?)?;
     }
     Ok(made)
+}
+
+/// An alternative with guarded branches, of which one has a test `p <- e` or none.
+pub(crate) fn row_of(
+    alloc: Global,
+    at: Span,
+    binds: bool,
+    binders: Items<CoreBinder>,
+    branches: Items<Branch>,
+) -> Result<Row, NoMemory>
+    ensures { IfOk result (λ row. row ≡ spec.row_of at binds binders branches) }
+{
+    if binds {
+        Ok(Row::Attempt { binders, branches })
+    } else {
+        let outcome = CoreOutcome::Guarded(guarded_ones(alloc, at, branches)?);
+        Ok(Row::Plain(CoreAlternative { binders, outcome }))
+    }
 }
 
 /// Names a place where the body goes on.
@@ -218,7 +236,7 @@ fn attempt(alloc: Global, at: Span, number: usize, branch: Branch) -> Result<Cor
 }
 
 /// Branches before another one, each of which goes on with the next.
-#[tactic(auto, using(crate::proofs::RowRules::before_last))]
+#[tactic(auto, using(crate::proofs::RowRules::before_last), unfolding(crate::specs::Rows::attempts_before))]
 fn attempts_before(
     alloc: Global,
     at: Span,
@@ -239,7 +257,7 @@ fn attempts_before(
 }
 
 /// The branches of an alternative, whose places have the numbers from this one on.
-#[tactic(auto, using(crate::proofs::RowRules::attempts_last))]
+#[tactic(auto, using(crate::proofs::RowRules::attempts_last), unfolding(crate::specs::Rows::attempts))]
 fn attempts(
     alloc: Global,
     at: Span,
@@ -266,6 +284,7 @@ fn subject(alloc: Global, at: Span, number: usize) -> Result<CoreExpr, NoMemory>
 }
 
 /// The names of subjects, whose numbers begin with this one.
+#[tactic(auto, unfolding(crate::specs::Rows::subjects_named))]
 fn subjects_named(
     alloc: Global,
     at: Span,
@@ -283,6 +302,7 @@ fn subjects_named(
     Ok(made)
 }
 
+#[tactic(auto, unfolding(crate::specs::Rows::any_binders))]
 fn any_binders(
     alloc: Global,
     at: Span,
@@ -297,6 +317,7 @@ fn any_binders(
     Ok(made)
 }
 
+#[tactic(auto, unfolding(crate::specs::Rows::subject_binds))]
 fn subject_binds(
     alloc: Global,
     at: Span,
@@ -395,6 +416,7 @@ fn rewritten(
 
 /// A case of these subjects and these rows, the last one first.
 #[cycle(cases)]
+#[tactic(auto, unfolding(crate::specs::Rows::case_of))]
 fn rows_of(
     alloc: Global,
     at: Span,
