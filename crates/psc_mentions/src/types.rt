@@ -1,18 +1,17 @@
 //! Types with true names.
 
-use crate::keys::Area;
 use crate::resolver::{Resolver, ident};
-use crate::stop::Stop;
 use psc_ast::{
     Constr, KindTree, LabelAt, RowField, RowTree, Sig, TypePrefix, TypeStep, TypeTree, TypeVar,
 };
+use psc_scope::{Area, Stop};
 use psc_text::{NoMemory, Text};
 use sqlite_items::{Boxed, Items};
 use std::alloc::Global;
 
 /// A type with true names. Its `forall`s bind in it.
 #[cycle(types)]
-pub(crate) fn typ(state: &mut Resolver, tree: &TypeTree) -> Result<TypeTree, Stop> {
+pub fn typ(state: &mut Resolver, tree: &TypeTree) -> Result<TypeTree, Stop> {
     match tree {
         TypeTree::Prefixed { .. } => prefixed(state, tree),
         TypeTree::Chain { .. } | TypeTree::Operation { .. } => operators(state, tree),
@@ -63,7 +62,7 @@ fn boxed(state: &mut Resolver, tree: &Boxed<TypeTree>) -> Result<Boxed<TypeTree>
 }
 
 #[cycle(types)]
-pub(crate) fn typs(state: &mut Resolver, trees: &[TypeTree]) -> Result<Items<TypeTree>, Stop> {
+pub fn typs(state: &mut Resolver, trees: &[TypeTree]) -> Result<Items<TypeTree>, Stop> {
     let mut list = Items::new(state.alloc);
     for tree in trees {
         list.push(typ(state, tree)?)?;
@@ -172,7 +171,7 @@ fn prefix(state: &mut Resolver, next: &TypePrefix) -> Result<TypePrefix, Stop> {
 
 /// Constraints with true names.
 #[cycle(types)]
-pub(crate) fn constraint_list(
+pub fn constraint_list(
     state: &mut Resolver,
     constraints: &[Constr],
 ) -> Result<Items<Constr>, Stop> {
@@ -204,7 +203,7 @@ fn row(state: &mut Resolver, tree: &RowTree) -> Result<RowTree, Stop> {
     Ok(RowTree { fields, tail })
 }
 
-pub(crate) fn label(label: &LabelAt) -> Result<LabelAt, NoMemory> {
+pub fn label(label: &LabelAt) -> Result<LabelAt, NoMemory> {
     Ok(LabelAt {
         label: label.label.clone()?,
         span: label.span,
@@ -212,7 +211,7 @@ pub(crate) fn label(label: &LabelAt) -> Result<LabelAt, NoMemory> {
 }
 
 /// Binds type variables from here on, and copies them.
-pub(crate) fn bind_vars(state: &mut Resolver, vars: &[TypeVar]) -> Result<Items<TypeVar>, Stop> {
+pub fn bind_vars(state: &mut Resolver, vars: &[TypeVar]) -> Result<Items<TypeVar>, Stop> {
     let mut list = Items::new(state.alloc);
     for var in vars {
         state.type_vars.enter(&var.name.name.0)?;
@@ -236,7 +235,7 @@ fn type_var(alloc: Global, var: &TypeVar) -> Result<TypeVar, NoMemory> {
 
 /// A copy of a kind, in which no names stand.
 #[cycle(kinds)]
-pub(crate) fn kind(alloc: Global, tree: &KindTree) -> Result<KindTree, NoMemory> {
+pub fn kind(alloc: Global, tree: &KindTree) -> Result<KindTree, NoMemory> {
     match tree {
         KindTree::XType { span } => Ok(KindTree::XType { span: *span }),
         KindTree::Constraint { span } => Ok(KindTree::Constraint { span: *span }),
@@ -275,7 +274,7 @@ fn kinds(alloc: Global, trees: &[KindTree]) -> Result<Items<KindTree>, NoMemory>
 }
 
 /// A signature with true names.
-pub(crate) fn signature(state: &mut Resolver, sig: &Sig) -> Result<Sig, Stop> {
+pub fn signature(state: &mut Resolver, sig: &Sig) -> Result<Sig, Stop> {
     let name = ident(&sig.name)?;
     let x_type = typ(state, &sig.x_type)?;
     Ok(Sig {
@@ -286,7 +285,7 @@ pub(crate) fn signature(state: &mut Resolver, sig: &Sig) -> Result<Sig, Stop> {
 }
 
 /// The variables of the `forall`s at the front of a signature, those right of its arrows among them.
-pub(crate) fn front_vars(tree: &TypeTree, out: &mut Vec<Text>) -> Result<(), NoMemory> {
+pub fn front_vars(tree: &TypeTree, out: &mut Vec<Text>) -> Result<(), NoMemory> {
     match tree {
         TypeTree::Paren { inner, .. } => front_vars(inner.get(), out),
         TypeTree::Prefixed {
@@ -311,7 +310,7 @@ pub(crate) fn front_vars(tree: &TypeTree, out: &mut Vec<Text>) -> Result<(), NoM
 ///
 /// In the head of an instance these are its variables: a `forall` cannot stand there.
 #[cycle(vars)]
-pub(crate) fn add_vars(tree: &TypeTree, out: &mut Vec<Text>) -> Result<(), NoMemory> {
+pub fn add_vars(tree: &TypeTree, out: &mut Vec<Text>) -> Result<(), NoMemory> {
     match tree {
         TypeTree::Variable { name } => {
             out.push(name.name.0.clone()?)?;
@@ -363,7 +362,7 @@ fn add_part_vars(tree: &TypeTree, out: &mut Vec<Text>) -> Result<(), NoMemory> {
 }
 
 #[cycle(vars)]
-pub(crate) fn add_all_vars(trees: &[TypeTree], out: &mut Vec<Text>) -> Result<(), NoMemory> {
+pub fn add_all_vars(trees: &[TypeTree], out: &mut Vec<Text>) -> Result<(), NoMemory> {
     for tree in trees {
         add_vars(tree, out)?;
     }

@@ -3,20 +3,18 @@
 //! An import without `as` gives names without a module before them, one with `as Q` gives `Q.x` alone. The names of a list
 //! come before those of open and hiding imports. A name in a list that the module does not export is an UnknownImport.
 
-use crate::keys::{Area, Key};
-use crate::scope::{Class, Scope};
-use crate::stop::{Stop, wrong_name};
 use crate::world::{Given, Interface, World};
 use psc_ast::{Ctors, ImportList, ImportTree, Ref, UpperAt};
 use psc_error::Code;
 use psc_externs::Externs;
+use psc_scope::{Area, Class, Key, Scope, Stop, wrong_name};
 use psc_text::{ModuleName, NoMemory, Qualified, Span, Text};
 use std::alloc::Global;
 use std::collections::{BTreeMap, BTreeSet};
 
 /// What each import gives, by the names under which `module` may export it.
 #[derive(Debug, Drop)]
-pub(crate) struct Imported {
+pub struct Imported {
     alloc: Global,
     pub lists: Vec<Vec<Given>>,
     /// The places of the lists of the imports of a module, and of those `as` it.
@@ -33,7 +31,7 @@ impl Imported {
     }
 
     /// The places of what an export of a module gives, if it is imported.
-    pub(crate) fn lists_of(&self, module: &ModuleName) -> Option<&[usize]> {
+    pub fn lists_of(&self, module: &ModuleName) -> Option<&[usize]> {
         match self.places.get(module) {
             Some(places) => Some(places.as_slice()),
             None => None,
@@ -67,7 +65,7 @@ impl Imported {
 /// Brings the names of all imports into scope, and those of `Prim` behind them.
 ///
 /// Wrong with UnknownImport at the first name of a list, in the order of the source, that is not exported.
-pub(crate) fn import_all(
+pub fn import_all(
     alloc: Global,
     imports: &[ImportTree],
     env: &[Externs],

@@ -4,10 +4,9 @@
 //! types, a class its members, its superclasses and what stands in its members' types, an operator its target. Types are read
 //! as the interface has them: written ones keep their synonyms.
 
-use crate::keys::{Area, Key};
-use crate::stop::{Problem, error_of};
 use psc_error::{Code, PsError};
-use psc_externs::{ClassRow, ExportRow, Externs, FixityRow, OpSpace};
+use psc_externs::{ClassRow, ExportRow, Externs, FixityRow};
+use psc_scope::{Area, Key, Problem, error_of};
 use psc_text::{ModuleName, NoMemory, Qualified, Span, Text};
 use psc_type::{Constraint, Ty};
 use std::alloc::Global;
@@ -117,7 +116,7 @@ impl Places {
             let _before = places.classes.insert(row.name.text().clone()?, place)?;
         }
         for (place, row) in own.fixities.as_slice().iter().enumerate() {
-            let key = Key::plain(operator_area(row), &row.op.0)?;
+            let key = Key::plain(Area::of_operator(row.space), &row.op.0)?;
             let _before = places.fixities.insert(key, place)?;
         }
         for (place, row) in own.constructors.as_slice().iter().enumerate() {
@@ -140,13 +139,6 @@ impl Places {
         places.push(place)?;
         let _before = self.constructors.insert(parent.clone()?, places)?;
         Ok(())
-    }
-}
-
-fn operator_area(row: &FixityRow) -> Area {
-    match row.space {
-        OpSpace::TypeOp => Area::TypeOp,
-        OpSpace::ValueOp => Area::ValueOp,
     }
 }
 
@@ -282,25 +274,43 @@ impl<'a> Closing<'a> {
         Ok(())
     }
 
-    /// The types and classes of a type.
+    /// The types and classes of a type. Its parts wait in a list, since a type may be deep.
     fn x_type(&mut self, ty: &Ty, span: Span) -> Result<(), NoMemory> {
+        let mut waiting = Vec::new(self.alloc);
+        waiting.push(ty)?;
+        for _turn in 0..u64::MAX {
+            let Some(next) = waiting.pop() else {
+                return Ok(());
+            };
+            self.part(next, &mut waiting, span)?;
+        }
+        Err(NoMemory)
+    }
+
+    /// Notes the name at the front of a type, and puts its parts to those that wait.
+    fn part<'b>(
+        &mut self,
+        ty: &'b Ty,
+        waiting: &mut Vec<&'b Ty>,
+        span: Span,
+    ) -> Result<(), NoMemory> {
         match ty {
             Ty::Con(name) => self.named(name, span),
-            Ty::App(function, argument) => {
-                self.x_type(function.get(), span)?;
-                self.x_type(argument.get(), span)
+            Ty::App(one, other) | Ty::RowCons(_, one, other) => {
+                waiting.push(one.get())?;
+                waiting.push(other.get())?;
+                Ok(())
             }
-            Ty::Forall(_, _, body) => self.x_type(body.get(), span),
+            Ty::Forall(_, _, body) => {
+                waiting.push(body.get())?;
+                Ok(())
+            }
             Ty::Given(constraint, body) => {
-                self.named(&constraint.class, span)?;
                 for argument in constraint.args.as_slice() {
-                    self.x_type(argument, span)?;
+                    waiting.push(argument)?;
                 }
-                self.x_type(body.get(), span)
-            }
-            Ty::RowCons(_, field, rest) => {
-                self.x_type(field.get(), span)?;
-                self.x_type(rest.get(), span)
+                waiting.push(body.get())?;
+                self.named(&constraint.class, span)
             }
             Ty::Var(_) | Ty::Unknown(_) | Ty::RowNil | Ty::Symbol(_) | Ty::Any(_) => Ok(()),
         }
@@ -312,7 +322,7 @@ fn target_area(area: Area, row: &FixityRow) -> Area {
     match area {
         Area::TypeOp => Area::XType,
         _ => {
-            if crate::resolver::is_upper(row.target.name.text()) {
+            if psc_scope::is_upper(row.target.name.text()) {
                 Area::Constructor
             } else {
                 Area::Value

@@ -2,27 +2,26 @@
 //!
 //! A second declaration of a name is a DuplicateValueDeclaration. A value's signature and a kind signature are no
 //! declarations, a class's member is one, and so is a written instance name, but it does not come into scope. A signature
-//! that does not stand directly before its declaration is an OrphanTypeDeclaration.
+//! that does not stand directly before its declaration is an OrphanTypeDeclaration, in local bindings too.
 
-use crate::keys::{Area, Key};
-use crate::scope::{Class, Scope};
-use crate::stop::{Stop, wrong_name};
 use psc_ast::{ClassDecl, Clause, DataDecl, Decl, FixityDecl, InstanceDecl, KindOf};
 use psc_error::Code;
+use psc_orphans::orphan_in_clause;
+use psc_scope::{Area, Class, Key, Scope, Stop, wrong_name};
 use psc_text::{ModuleName, NoMemory, Span, Text};
 use std::alloc::Global;
 use std::collections::{BTreeMap, BTreeSet};
 
 /// A declared name.
 #[derive(Debug, Drop)]
-pub(crate) struct OwnName {
+pub struct OwnName {
     pub area: Area,
     pub name: Text,
 }
 
 /// The declared names of a module.
 #[derive(Debug, Drop)]
-pub(crate) struct Own {
+pub struct Own {
     alloc: Global,
     /// In the order of the source.
     pub names: Vec<OwnName>,
@@ -39,7 +38,7 @@ pub(crate) struct Own {
 /// The names that a module declares.
 ///
 /// Wrong at the first declaration, in the order of the source, that is a second one or an orphan signature.
-pub(crate) fn own_names(alloc: Global, decls: &[Decl]) -> Result<Own, Stop> {
+pub fn own_names(alloc: Global, decls: &[Decl]) -> Result<Own, Stop> {
     let mut own = Own {
         alloc,
         names: Vec::new(alloc),
@@ -58,6 +57,7 @@ pub(crate) fn own_names(alloc: Global, decls: &[Decl]) -> Result<Own, Stop> {
                     own.declare(Area::Value, &clause.name.name.0, clause.span)?;
                     first = Some(clause);
                 }
+                own.locals(clause)?;
             }
             _ => {
                 own.other(decl, decls.get(place.saturating_add(1)))?;
@@ -69,7 +69,7 @@ pub(crate) fn own_names(alloc: Global, decls: &[Decl]) -> Result<Own, Stop> {
 }
 
 /// Whether a clause goes on the declaration that a first clause began: it has its name, and that one has arguments.
-pub(crate) fn goes_on(first: Option<&Clause>, clause: &Clause) -> bool {
+pub fn goes_on(first: Option<&Clause>, clause: &Clause) -> bool {
     match first {
         Some(first) => !first.arguments.is_empty() && first.name.name.same(&clause.name.name),
         None => false,
@@ -174,23 +174,34 @@ impl Own {
     }
 
     fn instance(&mut self, instance: &InstanceDecl) -> Result<(), Stop> {
-        match &instance.name {
-            Some(name) => self.see(Area::Value, &name.name.0, instance.span),
+        if let Some(name) = &instance.name {
+            self.see(Area::Value, &name.name.0, instance.span)?;
+        }
+        for member in instance.members.as_slice() {
+            self.locals(member)?;
+        }
+        Ok(())
+    }
+
+    /// The local bindings of a clause have no orphan signature.
+    fn locals(&self, clause: &Clause) -> Result<(), Stop> {
+        match orphan_in_clause(clause) {
+            Some(sig) => self.unless(false, &sig.name.name.0, sig.span),
             None => Ok(()),
         }
     }
 
-    pub(crate) fn has(&self, area: Area, name: &Text) -> Result<bool, NoMemory> {
+    pub fn has(&self, area: Area, name: &Text) -> Result<bool, NoMemory> {
         let key = Key::plain(area, name)?;
         Ok(self.declared.contains(&key))
     }
 
-    pub(crate) fn is_class(&self, name: &Text) -> bool {
+    pub fn is_class(&self, name: &Text) -> bool {
         self.classes.contains(name)
     }
 
     /// The constructors of a type.
-    pub(crate) fn constructors_of(&self, x_type: &Text) -> &[Text] {
+    pub fn constructors_of(&self, x_type: &Text) -> &[Text] {
         match self.constructors.get(x_type) {
             Some(constructors) => constructors.as_slice(),
             None => &[],
@@ -198,7 +209,7 @@ impl Own {
     }
 
     /// Whether a type has the constructor.
-    pub(crate) fn is_constructor_of(&self, constructor: &Text, x_type: &Text) -> bool {
+    pub fn is_constructor_of(&self, constructor: &Text, x_type: &Text) -> bool {
         match self.parents.get(constructor) {
             Some(parent) => parent.same(x_type),
             None => false,
@@ -206,7 +217,7 @@ impl Own {
     }
 
     /// Brings all declared names into scope.
-    pub(crate) fn bring(&self, module: &ModuleName, scope: &mut Scope) -> Result<(), NoMemory> {
+    pub fn bring(&self, module: &ModuleName, scope: &mut Scope) -> Result<(), NoMemory> {
         for own in &self.names {
             let key = Key::plain(own.area, &own.name)?;
             scope.add(Class::Own, key, module.clone()?)?;

@@ -1,17 +1,16 @@
 //! Binders with true names, and the names that they bind.
 
-use crate::keys::Area;
 use crate::resolver::{Resolver, ident};
-use crate::stop::Stop;
 use crate::types::{label, typ};
 use psc_ast::{BinderField, BinderStep, BinderTree, IdentAt};
+use psc_scope::{Area, Stop};
 use psc_text::{NoMemory, Text};
 use sqlite_items::{Boxed, Items};
 use std::alloc::Global;
 
 /// A binder with true names. The names that it binds come to the end of the list.
 #[cycle(binders)]
-pub(crate) fn binder(
+pub fn binder(
     state: &mut Resolver,
     tree: &BinderTree,
     names: &mut Vec<Text>,
@@ -81,7 +80,7 @@ fn boxed(
 }
 
 #[cycle(binders)]
-pub(crate) fn binders(
+pub fn binders(
     state: &mut Resolver,
     trees: &[BinderTree],
     names: &mut Vec<Text>,
@@ -222,7 +221,7 @@ fn field_list(
 
 /// The names that a binder binds, in the order of the source.
 #[cycle(bound)]
-pub(crate) fn bound_names(tree: &BinderTree, names: &mut Vec<Text>) -> Result<(), NoMemory> {
+pub fn bound_names(tree: &BinderTree, names: &mut Vec<Text>) -> Result<(), NoMemory> {
     match tree {
         BinderTree::Chain { .. } | BinderTree::Operation { .. } => operand_names(tree, names),
         BinderTree::Constructor { arguments, .. } => all_bound(arguments.as_slice(), names),

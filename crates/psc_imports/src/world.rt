@@ -1,21 +1,25 @@
 //! What the modules of the environment export and declare, as far as it is asked for.
+//!
+//! An exported name counts only where the module that declares it has its row: the environment may be any list.
 
-use crate::keys::{Area, Key};
-use psc_externs::{Externs, FixityRow};
+use psc_externs::{
+    ClassRow, ConstructorRow, ExportRow, Externs, FixityRow, TypeRow, ValueRow,
+};
+use psc_scope::{Area, Key};
 use psc_text::{ModuleName, NoMemory, Qualified, Text, read_module_name};
 use std::alloc::Global;
 use std::collections::{BTreeMap, BTreeSet};
 
 /// A name with the module that declares it.
 #[derive(Debug, Drop)]
-pub(crate) struct Given {
+pub struct Given {
     pub area: Area,
     pub name: Text,
     pub module: ModuleName,
 }
 
 impl Given {
-    pub(crate) fn copy(&self) -> Result<Given, NoMemory> {
+    pub fn copy(&self) -> Result<Given, NoMemory> {
         Ok(Given {
             area: self.area,
             name: self.name.clone()?,
@@ -26,7 +30,7 @@ impl Given {
 
 /// What a module exports.
 #[derive(Debug, Drop)]
-pub(crate) struct Interface {
+pub struct Interface {
     pub rows: Vec<Given>,
     /// The rows of each name, by their places.
     places: BTreeMap<Key, Vec<usize>>,
@@ -52,7 +56,7 @@ impl Interface {
     }
 
     /// The rows of a name.
-    pub(crate) fn named(&self, area: Area, name: &Text) -> Result<&[usize], NoMemory> {
+    pub fn named(&self, area: Area, name: &Text) -> Result<&[usize], NoMemory> {
         let key = Key::plain(area, name)?;
         Ok(match self.places.get(&key) {
             Some(places) => places.as_slice(),
@@ -61,7 +65,7 @@ impl Interface {
     }
 
     /// The rows of a type's exported constructors.
-    pub(crate) fn constructors_of(&self, parent: &Qualified) -> &[usize] {
+    pub fn constructors_of(&self, parent: &Qualified) -> &[usize] {
         match self.constructors.get(parent) {
             Some(places) => places.as_slice(),
             None => &[],
@@ -87,16 +91,35 @@ fn add_place<K: Ord + Drop>(
 
 /// The environment by its names.
 #[derive(Debug, Drop)]
-pub(crate) struct World {
+pub struct World {
     alloc: Global,
     prim: ModuleName,
     places: BTreeMap<ModuleName, usize>,
     interfaces: BTreeMap<ModuleName, Interface>,
-    /// The modules whose constructors and classes are known.
+    /// The modules whose declarations are known.
     learned: BTreeSet<ModuleName>,
+    /// The known declarations: names with the modules that declare them.
+    declared: BTreeSet<Key>,
     /// The type of each known constructor.
     parents: BTreeMap<Qualified, Text>,
     classes: BTreeSet<Qualified>,
+}
+
+/// A name with the module that declares it.
+pub(crate) fn true_name(name: &Text, module: &ModuleName) -> Result<Qualified, NoMemory> {
+    Ok(Qualified {
+        module: Some(module.clone()?),
+        name: name.clone()?,
+    })
+}
+
+/// A name in its space, with the module that declares it.
+fn true_key(area: Area, name: &Text, module: &ModuleName) -> Result<Key, NoMemory> {
+    Ok(Key {
+        area,
+        name: name.clone()?,
+        qualifier: Some(module.clone()?),
+    })
 }
 
 /// The types of `Prim`, its kinds among them.
@@ -117,7 +140,7 @@ const PRIM_TYPES: [&str; 11] = [
 const PRIM_CLASS: &str = "Partial";
 
 /// The name of the module that every module sees.
-pub(crate) fn prim_name(alloc: Global) -> Result<ModuleName, NoMemory> {
+pub fn prim_name(alloc: Global) -> Result<ModuleName, NoMemory> {
     match read_module_name(alloc, "Prim")? {
         Some(name) => Ok(name),
         None => Err(NoMemory),
@@ -125,13 +148,14 @@ pub(crate) fn prim_name(alloc: Global) -> Result<ModuleName, NoMemory> {
 }
 
 impl World {
-    pub(crate) fn new(alloc: Global, env: &[Externs]) -> Result<World, NoMemory> {
+    pub fn new(alloc: Global, env: &[Externs]) -> Result<World, NoMemory> {
         let mut world = World {
             alloc,
             prim: prim_name(alloc)?,
             places: BTreeMap::new(alloc),
             interfaces: BTreeMap::new(alloc),
             learned: BTreeSet::new(alloc),
+            declared: BTreeSet::new(alloc),
             parents: BTreeMap::new(alloc),
             classes: BTreeSet::new(alloc),
         };
@@ -143,18 +167,19 @@ impl World {
     }
 
     fn add_prim(&mut self) -> Result<(), NoMemory> {
+        let prim = self.prim.clone()?;
         let mut interface = Interface::new(self.alloc);
         for name in PRIM_TYPES {
             let row = self.prim_row(name)?;
+            self.declare(Area::XType, &row.name, &prim)?;
             interface.add(self.alloc, row)?;
         }
         let class = self.prim_row(PRIM_CLASS)?;
-        let _new = self.classes.insert(Qualified {
-            module: Some(self.prim.clone()?),
-            name: class.name.clone()?,
-        })?;
+        self.declare(Area::XType, &class.name, &prim)?;
+        self.declare_class(&class.name, &prim)?;
         interface.add(self.alloc, class)?;
-        let _before = self.interfaces.insert(self.prim.clone()?, interface)?;
+        let _before = self.interfaces.insert(prim.clone()?, interface)?;
+        let _new = self.learned.insert(prim)?;
         Ok(())
     }
 
@@ -167,25 +192,40 @@ impl World {
     }
 
     /// Makes what a module exports known. A module that is not there exports nothing.
-    pub(crate) fn open(&mut self, env: &[Externs], module: &ModuleName) -> Result<(), NoMemory> {
+    pub fn open(&mut self, env: &[Externs], module: &ModuleName) -> Result<(), NoMemory> {
         if self.interfaces.contains_key(module) {
             return Ok(());
         }
+        let interface = match self.externs_of(env, module) {
+            Some(externs) => self.exported(env, externs.exports.as_slice())?,
+            None => Interface::new(self.alloc),
+        };
+        let _before = self.interfaces.insert(module.clone()?, interface)?;
+        Ok(())
+    }
+
+    /// The exported names that their modules declare.
+    fn exported(&mut self, env: &[Externs], rows: &[ExportRow]) -> Result<Interface, NoMemory> {
         let mut interface = Interface::new(self.alloc);
-        if let Some(externs) = self.externs_of(env, module) {
-            for row in externs.exports.as_slice() {
-                let given = Given {
-                    area: Area::of(row.entity.space()),
-                    name: row.entity.text().clone()?,
-                    module: row.module.clone()?,
-                };
-                self.learn(env, &given.module)?;
+        for row in rows {
+            let given = Given {
+                area: Area::of(row.entity.space()),
+                name: row.entity.text().clone()?,
+                module: row.module.clone()?,
+            };
+            self.learn(env, &given.module)?;
+            if self.has_row(&given)? {
                 self.add_constructor(&mut interface, &given)?;
                 interface.add(self.alloc, given)?;
             }
         }
-        let _before = self.interfaces.insert(module.clone()?, interface)?;
-        Ok(())
+        Ok(interface)
+    }
+
+    /// Whether the module that should declare a name does.
+    fn has_row(&self, row: &Given) -> Result<bool, NoMemory> {
+        let key = true_key(row.area, &row.name, &row.module)?;
+        Ok(self.declared.contains(&key))
     }
 
     /// Notes the place of the next row under its type, if it is a constructor.
@@ -193,22 +233,16 @@ impl World {
         if row.area != Area::Constructor {
             return Ok(());
         }
-        let name = Qualified {
-            module: Some(row.module.clone()?),
-            name: row.name.clone()?,
-        };
+        let name = true_name(&row.name, &row.module)?;
         if let Some(parent) = self.parents.get(&name) {
-            let key = Qualified {
-                module: Some(row.module.clone()?),
-                name: parent.clone()?,
-            };
+            let key = true_name(parent, &row.module)?;
             let place = interface.rows.len();
             add_place(self.alloc, &mut interface.constructors, key, place)?;
         }
         Ok(())
     }
 
-    pub(crate) fn interface(&self, module: &ModuleName) -> Option<&Interface> {
+    pub fn interface(&self, module: &ModuleName) -> Option<&Interface> {
         self.interfaces.get(module)
     }
 
@@ -219,68 +253,105 @@ impl World {
         }
     }
 
-    /// Makes a module's constructors and classes known.
+    /// Makes a module's declarations known.
     fn learn(&mut self, env: &[Externs], module: &ModuleName) -> Result<(), NoMemory> {
         if self.learned.contains(module) {
             return Ok(());
         }
         if let Some(externs) = self.externs_of(env, module) {
-            for row in externs.constructors.as_slice() {
-                let name = Qualified {
-                    module: Some(module.clone()?),
-                    name: row.name.text().clone()?,
-                };
-                let _before = self.parents.insert(name, row.parent.text().clone()?)?;
-            }
-            for row in externs.classes.as_slice() {
-                let name = Qualified {
-                    module: Some(module.clone()?),
-                    name: row.name.text().clone()?,
-                };
-                let _new = self.classes.insert(name)?;
-            }
+            self.learn_values(externs.values.as_slice(), module)?;
+            self.learn_constructors(externs.constructors.as_slice(), module)?;
+            self.learn_types(externs.types.as_slice(), module)?;
+            self.learn_classes(externs.classes.as_slice(), module)?;
+            self.learn_operators(externs.fixities.as_slice(), module)?;
         }
         let _new = self.learned.insert(module.clone()?)?;
         Ok(())
     }
 
-    pub(crate) fn is_class(&self, row: &Given) -> Result<bool, NoMemory> {
-        let name = Qualified {
-            module: Some(row.module.clone()?),
-            name: row.name.clone()?,
-        };
+    fn declare(&mut self, area: Area, name: &Text, module: &ModuleName) -> Result<(), NoMemory> {
+        let key = true_key(area, name, module)?;
+        let _new = self.declared.insert(key)?;
+        Ok(())
+    }
+
+    fn declare_class(&mut self, name: &Text, module: &ModuleName) -> Result<(), NoMemory> {
+        let name = true_name(name, module)?;
+        let _new = self.classes.insert(name)?;
+        Ok(())
+    }
+
+    fn learn_values(&mut self, rows: &[ValueRow], module: &ModuleName) -> Result<(), NoMemory> {
+        for row in rows {
+            self.declare(Area::Value, row.name.text(), module)?;
+        }
+        Ok(())
+    }
+
+    fn learn_constructors(
+        &mut self,
+        rows: &[ConstructorRow],
+        module: &ModuleName,
+    ) -> Result<(), NoMemory> {
+        for row in rows {
+            self.declare(Area::Constructor, row.name.text(), module)?;
+            let name = true_name(row.name.text(), module)?;
+            let parent = row.parent.text().clone()?;
+            let _before = self.parents.insert(name, parent)?;
+        }
+        Ok(())
+    }
+
+    fn learn_types(&mut self, rows: &[TypeRow], module: &ModuleName) -> Result<(), NoMemory> {
+        for row in rows {
+            self.declare(Area::XType, row.name.text(), module)?;
+        }
+        Ok(())
+    }
+
+    fn learn_classes(&mut self, rows: &[ClassRow], module: &ModuleName) -> Result<(), NoMemory> {
+        for row in rows {
+            self.declare(Area::XType, row.name.text(), module)?;
+            self.declare_class(row.name.text(), module)?;
+        }
+        Ok(())
+    }
+
+    fn learn_operators(&mut self, rows: &[FixityRow], module: &ModuleName) -> Result<(), NoMemory> {
+        for row in rows {
+            self.declare(Area::of_operator(row.space), &row.op.0, module)?;
+        }
+        Ok(())
+    }
+
+    pub fn is_class(&self, row: &Given) -> Result<bool, NoMemory> {
+        let name = true_name(&row.name, &row.module)?;
         Ok(self.classes.contains(&name))
     }
 
     /// Whether a row is a constructor of one of the types.
-    pub(crate) fn is_constructor_of(
+    pub fn is_constructor_of(
         &self,
         row: &Given,
         types: &[Qualified],
     ) -> Result<bool, NoMemory> {
-        let name = Qualified {
-            module: Some(row.module.clone()?),
-            name: row.name.clone()?,
-        };
+        let name = true_name(&row.name, &row.module)?;
         let Some(parent) = self.parents.get(&name) else {
             return Ok(false);
         };
-        let made = Qualified {
-            module: Some(row.module.clone()?),
-            name: parent.clone()?,
-        };
+        let made = true_name(parent, &row.module)?;
         Ok(types.iter().any(|x_type| x_type.same(&made)))
     }
 
     /// The fixities of a module, if it is there.
-    pub(crate) fn fixities<'a>(&self, env: &'a [Externs], module: &ModuleName) -> &'a [FixityRow] {
+    pub fn fixities<'a>(&self, env: &'a [Externs], module: &ModuleName) -> &'a [FixityRow] {
         match self.externs_of(env, module) {
             Some(externs) => externs.fixities.as_slice(),
             None => &[],
         }
     }
 
-    pub(crate) fn prim(&self) -> &ModuleName {
+    pub fn prim(&self) -> &ModuleName {
         &self.prim
     }
 }

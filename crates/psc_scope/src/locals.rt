@@ -6,14 +6,14 @@ use std::collections::BTreeMap;
 
 /// The bound names at a place, and how often each is bound.
 #[derive(Debug, Drop)]
-pub(crate) struct Locals {
+pub struct Locals {
     counts: BTreeMap<Text, u32>,
     /// The bound names, the innermost last.
     names: Vec<Text>,
 }
 
 impl Locals {
-    pub(crate) fn new(alloc: Global) -> Locals {
+    pub fn new(alloc: Global) -> Locals {
         Locals {
             counts: BTreeMap::new(alloc),
             names: Vec::new(alloc),
@@ -21,11 +21,11 @@ impl Locals {
     }
 
     /// How many names are bound, which tells later how far to leave.
-    pub(crate) fn mark(&self) -> usize {
+    pub fn mark(&self) -> usize {
         self.names.len()
     }
 
-    pub(crate) fn enter(&mut self, name: &Text) -> Result<(), NoMemory> {
+    pub fn enter(&mut self, name: &Text) -> Result<(), NoMemory> {
         let count = match self.counts.get(name) {
             Some(count) => *count,
             None => 0,
@@ -35,7 +35,7 @@ impl Locals {
         Ok(())
     }
 
-    pub(crate) fn enter_all(&mut self, names: &[Text]) -> Result<(), NoMemory> {
+    pub fn enter_all(&mut self, names: &[Text]) -> Result<(), NoMemory> {
         for name in names {
             self.enter(name)?;
         }
@@ -43,7 +43,7 @@ impl Locals {
     }
 
     /// Leaves all names that were bound since the mark.
-    pub(crate) fn leave(&mut self, mark: usize) -> Result<(), NoMemory> {
+    pub fn leave(&mut self, mark: usize) -> Result<(), NoMemory> {
         for _ in mark..self.names.len() {
             if let Some(name) = self.names.pop() {
                 self.lower(name)?;
@@ -65,7 +65,7 @@ impl Locals {
         Ok(())
     }
 
-    pub(crate) fn has(&self, name: &Text) -> bool {
+    pub fn has(&self, name: &Text) -> bool {
         self.counts.contains_key(name)
     }
 }

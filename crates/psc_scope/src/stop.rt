@@ -7,14 +7,14 @@ use std::alloc::{AllocError, AllocFailed, Global};
 
 /// What is wrong with a module.
 #[derive(Debug, Drop)]
-pub(crate) struct Problem {
+pub struct Problem {
     pub code: Code,
     pub span: Span,
     pub parts: Vec<Text>,
 }
 
 #[derive(Debug, Drop)]
-pub(crate) enum Stop {
+pub enum Stop {
     NoMemory,
     Wrong(Problem),
 }
@@ -38,7 +38,7 @@ impl<T: Drop> From<AllocFailed<T>> for Stop {
 }
 
 /// A problem whose one part is a name.
-pub(crate) fn wrong_name(alloc: Global, code: Code, name: &Text, span: Span) -> Stop {
+pub fn wrong_name(alloc: Global, code: Code, name: &Text, span: Span) -> Stop {
     match one_part(alloc, name) {
         Ok(parts) => Stop::Wrong(Problem { code, span, parts }),
         Err(_) => Stop::NoMemory,
@@ -52,7 +52,7 @@ fn one_part(alloc: Global, name: &Text) -> Result<Vec<Text>, NoMemory> {
 }
 
 /// A name that has two true names: it and their modules, which come ascending.
-pub(crate) fn conflict(
+pub fn conflict(
     alloc: Global,
     code: Code,
     name: &Text,
@@ -78,7 +78,7 @@ fn conflict_parts(
 }
 
 /// The error of a module.
-pub(crate) fn error_of(
+pub fn error_of(
     alloc: Global,
     module: &ModuleName,
     problem: Problem,

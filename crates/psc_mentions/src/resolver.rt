@@ -1,19 +1,16 @@
 //! A mention's true name, and what is noted of it.
 
-use crate::keys::{Area, Key, entity, written};
-use crate::locals::Locals;
-use crate::scope::{Found, Scope};
-use crate::stop::{Stop, conflict, wrong_name};
 use psc_ast::{IdentAt, Mention};
 use psc_error::Code;
 use psc_externs::UseRow;
-use psc_text::{ModuleName, NoMemory, Qualified, Span, Text, begins_upper};
+use psc_scope::{Area, Found, Key, Locals, Scope, Stop, conflict, entity, is_upper, wrong_name, written};
+use psc_text::{ModuleName, NoMemory, Qualified, Span, Text};
 use std::alloc::Global;
 use std::collections::BTreeSet;
 
 /// What is in scope at a place, and what was mentioned before it.
 #[derive(Drop)]
-pub(crate) struct Resolver {
+pub struct Resolver {
     pub alloc: Global,
     scope: Scope,
     pub values: Locals,
@@ -25,7 +22,7 @@ pub(crate) struct Resolver {
 }
 
 impl Resolver {
-    pub(crate) fn new(alloc: Global, scope: Scope) -> Resolver {
+    pub fn new(alloc: Global, scope: Scope) -> Resolver {
         Resolver {
             alloc,
             scope,
@@ -53,7 +50,7 @@ impl Resolver {
                     self.alloc,
                     Code::ScopeConflict,
                     &name,
-                    &modules,
+                    modules.as_slice(),
                     mention.span,
                 ))
             }
@@ -61,7 +58,7 @@ impl Resolver {
     }
 
     /// A mention of what some module declares.
-    pub(crate) fn global(&mut self, area: Area, mention: &Mention) -> Result<Mention, Stop> {
+    pub fn global(&mut self, area: Area, mention: &Mention) -> Result<Mention, Stop> {
         let module = self.module_of(area, mention)?;
         if let Some(entity) = entity(area, &mention.name.name)? {
             self.uses.push(UseRow {
@@ -84,7 +81,7 @@ impl Resolver {
     }
 
     /// A mention of a value, which may be a local one.
-    pub(crate) fn value(&mut self, mention: &Mention) -> Result<Mention, Stop> {
+    pub fn value(&mut self, mention: &Mention) -> Result<Mention, Stop> {
         if self.is_local(mention) {
             return Ok(copy(mention)?);
         }
@@ -92,7 +89,7 @@ impl Resolver {
     }
 
     /// A mention of an operator of values or of types.
-    pub(crate) fn operator(&mut self, area: Area, mention: &Mention) -> Result<Mention, Stop> {
+    pub fn operator(&mut self, area: Area, mention: &Mention) -> Result<Mention, Stop> {
         let found = self.global(area, mention)?;
         let _new = self
             .operators
@@ -101,7 +98,7 @@ impl Resolver {
     }
 
     /// A mention of a value or a constructor.
-    pub(crate) fn value_or_constructor(&mut self, mention: &Mention) -> Result<Mention, Stop> {
+    pub fn value_or_constructor(&mut self, mention: &Mention) -> Result<Mention, Stop> {
         if is_upper(&mention.name.name) {
             self.global(Area::Constructor, mention)
         } else {
@@ -110,7 +107,7 @@ impl Resolver {
     }
 
     /// A value that a form mentions without its name being written.
-    pub(crate) fn made(&mut self, name: &str, span: Span) -> Result<Mention, Stop> {
+    pub fn made(&mut self, name: &str, span: Span) -> Result<Mention, Stop> {
         let mention = Mention {
             name: Qualified {
                 module: None,
@@ -133,7 +130,7 @@ impl Resolver {
     }
 
     /// A mention of a type variable.
-    pub(crate) fn type_var(&mut self, name: &IdentAt) -> Result<IdentAt, Stop> {
+    pub fn type_var(&mut self, name: &IdentAt) -> Result<IdentAt, Stop> {
         if self.type_vars.has(&name.name.0) {
             return Ok(ident(name)?);
         }
@@ -141,22 +138,14 @@ impl Resolver {
     }
 }
 
-/// Whether a name begins as those of constructors and types do.
-pub(crate) fn is_upper(name: &Text) -> bool {
-    match name.as_str().chars().next() {
-        Some(letter) => begins_upper(letter),
-        None => false,
-    }
-}
-
-pub(crate) fn copy(mention: &Mention) -> Result<Mention, NoMemory> {
+pub fn copy(mention: &Mention) -> Result<Mention, NoMemory> {
     Ok(Mention {
         name: mention.name.clone()?,
         span: mention.span,
     })
 }
 
-pub(crate) fn ident(name: &IdentAt) -> Result<IdentAt, NoMemory> {
+pub fn ident(name: &IdentAt) -> Result<IdentAt, NoMemory> {
     Ok(IdentAt {
         name: name.name.clone()?,
         span: name.span,

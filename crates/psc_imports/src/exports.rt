@@ -5,20 +5,19 @@
 //! not there is an UnknownExport, and a second true name for an exported name is an ExportConflict.
 
 use crate::imports::Imported;
-use crate::keys::{Area, Key, entity};
 use crate::own::Own;
-use crate::stop::{Stop, conflict, wrong_name};
 use crate::world::Given;
 use psc_ast::{Ctors, Export, Module, ModuleAt, Ref, UpperAt};
 use psc_error::Code;
 use psc_externs::ExportRow;
+use psc_scope::{Area, Key, Stop, conflict, entity, wrong_name};
 use psc_text::{ModuleName, NoMemory, Span, Text};
 use std::alloc::Global;
 use std::collections::BTreeMap;
 
 /// The exported names, ascending by space and name, and where each is brought.
 #[derive(Debug, Drop)]
-pub(crate) struct Exported {
+pub struct Exported {
     pub rows: Vec<ExportRow>,
     pub brought: Vec<Span>,
 }
@@ -33,7 +32,7 @@ struct Origin {
 /// The exports of a module.
 ///
 /// Wrong at the first export, in the order of the source, that names what is not there or brings a second true name.
-pub(crate) fn export_all(
+pub fn export_all(
     alloc: Global,
     module: &Module,
     own: &Own,
