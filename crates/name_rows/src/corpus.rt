@@ -24,7 +24,7 @@ impl Corpus {
         }
     }
 
-    /// What a module gives: how many mentions and exports it has, or its error. Its interface comes to the others.
+    /// Whether a module's names resolve, or its error. Its interface comes to the others.
     pub(crate) fn next(&mut self, name: &str, source: &str) -> Result<String, NoMemory> {
         match parse(self.alloc, source)? {
             Ok(module) => self.add(name, module),
@@ -32,14 +32,12 @@ impl Corpus {
         }
     }
 
-    /// The same of a module that is read.
-    pub(crate) fn add(&mut self, name: &str, module: Module) -> Result<String, NoMemory> {
+    fn add(&mut self, name: &str, module: Module) -> Result<String, NoMemory> {
         let alloc = self.alloc;
         match resolve(alloc, module, &self.env)? {
             Ok(resolved) => {
-                let (uses, exports) = (resolved.uses.len(), resolved.exports.len());
                 self.env.push(interface_of(alloc, resolved)?)?;
-                Ok(format!(in alloc; "{} {} uses {} exports", name, uses, exports)?)
+                Ok(format!(in alloc; "{name} resolves")?)
             }
             Err(error) => error_text(alloc, &error, name),
         }

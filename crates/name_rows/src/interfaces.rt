@@ -5,7 +5,7 @@
 //! exports it; with `-` before the word it is not exported; with `of N` behind it, module N declares it and this one exports it.
 //! A TYPE is words: `T` applied to what follows, `^C` a constraint of C before it, `~` a forall, `{` a row's field.
 
-use crate::types::{constraint_of, type_of, true_name};
+use crate::types::{constraint_of, true_name, type_of};
 use psc_externs::{
     Assoc, ClassRow, ConstructorRow, Entity, ExportRow, ExternConstraint, ExternKind, ExternType,
     Externs, FixityRow, Name, OpSpace, SynonymRow, TrueName, TypeRow, ValueRow,
@@ -89,8 +89,7 @@ impl Interfaces {
             }
         }
         let place = self.list.len();
-        self.list
-            .push(Interface::new(self.alloc, module.clone()?))?;
+        self.list.push(Interface::new(self.alloc, module.clone()?))?;
         Ok(place)
     }
 

@@ -4,7 +4,7 @@
 //! what tree the resolved module must be, `f fixities`, `u uses` and `e exports` what operators it must have and what it must
 //! mention and export, and `! error line` by what error it must be refused. `c closed` or `c error line` says whether the
 //! interface rows of the module itself are closed under its exports.
-//! Printed are the rows that differ, the counts, and for each module of `examples.txt` its mentions and exports.
+//! Printed are the rows that differ, the counts, and for each module of `examples.txt` whether it resolves.
 #![tactic(auto)]
 
 mod corpus;
@@ -118,11 +118,7 @@ fn fixity_text(alloc: Global, row: &Fixity) -> Result<String, NoMemory> {
     let (side, power) = (side_word(row.side), row.power);
     let (op, target) = (row.op.name.as_str(), row.target.name.as_str());
     let (module, other) = (module_word(&row.op.module), module_word(&row.target.module));
-    let space = if row.of_types {
-        " type"
-    } else {
-        ""
-    };
+    let space = if row.of_types { " type" } else { "" };
     Ok(format!(in alloc; "{side} {power}{space} {other}.{target} as {module}.{op}")?)
 }
 
@@ -276,7 +272,7 @@ fn read_rows(alloc: Global, text: &str) -> Result<String, NoMemory> {
     Ok(format!(in alloc; "{}{} rows, {} differ", report, count, differing)?)
 }
 
-/// What the modules give, a line for each.
+/// Whether the modules resolve, a line for each.
 fn read_examples(rt: &HostRuntime, alloc: Global, names: &str) -> anyhow::Result<()> {
     let mut corpus = Corpus::new(alloc);
     for name in names.lines() {

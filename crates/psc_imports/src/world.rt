@@ -2,9 +2,7 @@
 //!
 //! An exported name counts only where the module that declares it has its row: the environment may be any list.
 
-use psc_externs::{
-    ClassRow, ConstructorRow, ExportRow, Externs, FixityRow, TypeRow, ValueRow,
-};
+use psc_externs::{ClassRow, ConstructorRow, ExportRow, Externs, FixityRow, TypeRow, ValueRow};
 use psc_scope::{Area, Key};
 use psc_text::{ModuleName, NoMemory, Qualified, Text, read_module_name};
 use std::alloc::Global;
@@ -330,11 +328,7 @@ impl World {
     }
 
     /// Whether a row is a constructor of one of the types.
-    pub fn is_constructor_of(
-        &self,
-        row: &Given,
-        types: &[Qualified],
-    ) -> Result<bool, NoMemory> {
+    pub fn is_constructor_of(&self, row: &Given, types: &[Qualified]) -> Result<bool, NoMemory> {
         let name = true_name(&row.name, &row.module)?;
         let Some(parent) = self.parents.get(&name) else {
             return Ok(false);

@@ -3,7 +3,9 @@
 use psc_ast::{IdentAt, Mention};
 use psc_error::Code;
 use psc_externs::UseRow;
-use psc_scope::{Area, Found, Key, Locals, Scope, Stop, conflict, entity, is_upper, wrong_name, written};
+use psc_scope::{
+    Area, Found, Key, Locals, Scope, Stop, conflict, entity, is_upper, written, wrong_name,
+};
 use psc_text::{ModuleName, NoMemory, Qualified, Span, Text};
 use std::alloc::Global;
 use std::collections::BTreeSet;

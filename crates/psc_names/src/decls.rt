@@ -5,7 +5,9 @@ use psc_ast::{
     ClassDecl, Clause, Ctor, DataDecl, Decl, Dep, FixityDecl, IdentAt, InstanceDecl, OpAt, Sig,
     SynonymDecl, UpperAt,
 };
-use psc_mentions::{Resolver, add_all_vars, bind_vars, constraint_list, ident, kind, signature, typ, typs};
+use psc_mentions::{
+    Resolver, add_all_vars, bind_vars, constraint_list, ident, kind, signature, typ, typs,
+};
 use psc_scope::{Area, Stop};
 use psc_text::NoMemory;
 use sqlite_items::Items;

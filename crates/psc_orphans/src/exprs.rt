@@ -121,7 +121,9 @@ fn in_parts(tree: &ExprTree) -> Option<&Sig> {
             in_expr(otherwise.get())
         }
         ExprTree::Update {
-            subject, updates, ..
+            subject,
+            updates,
+            ..
         } => {
             let found = in_expr(subject.get());
             if found.is_some() {
@@ -156,7 +158,9 @@ fn in_block(tree: &ExprTree) -> Option<&Sig> {
         }
         ExprTree::Do { statements, .. } => in_statements(statements.as_slice()),
         ExprTree::Ado {
-            statements, result, ..
+            statements,
+            result,
+            ..
         } => {
             let found = in_statements(statements.as_slice());
             if found.is_some() {

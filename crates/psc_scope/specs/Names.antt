@@ -22,7 +22,7 @@ operator_area op_space.ValueOp = area.ValueOp
 -- a name with its module and a dot before it, where it has one
 abbrev pub written_by : Option (List ℕ) → List ℕ → List ℕ
 written_by None name = name
-written_by (Some module) name = module ++ 46 ∷ name
+written_by (Some before) name = before ++ 46 ∷ name
 
 abbrev pub written : Qualified → List ℕ
 written q = written_by q.«module» q.name

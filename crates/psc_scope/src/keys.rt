@@ -54,11 +54,7 @@ pub struct Key {
 
 impl Key {
     /// A name as it is written.
-    pub fn new(
-        area: Area,
-        name: &Text,
-        qualifier: &Option<ModuleName>,
-    ) -> Result<Key, NoMemory>
+    pub fn new(area: Area, name: &Text, qualifier: &Option<ModuleName>) -> Result<Key, NoMemory>
         ensures { IfOk result (λ key. (key.area ≡ area) × (key.name ≡ name.now) × (key.qualifier ≡ qualifier.now)) }
     {
         Ok(Key {
@@ -93,7 +89,6 @@ pub fn entity(area: Area, name: &Text) -> Result<Option<Entity>, NoMemory>
         Area::Value => Ok(Name::new(text).map(Entity::Value)),
     }
 }
-
 
 /// A name as it is written, with its module and a dot before it, if it has one.
 pub fn written(alloc: Global, name: &Qualified) -> Result<Text, NoMemory>

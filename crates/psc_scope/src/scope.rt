@@ -2,7 +2,7 @@
 //!
 //! Local names are kept apart, since they come and go.
 
-ghost use Rattle.std.specs.Prelude.{◌≡◌, [], ◌∷◌, IfOk};
+ghost use Rattle.std.specs.Prelude.{◌≡◌, [], ◌∷◌, IfOk, OnOk};
 ghost use Rattle.psc_scope.specs.Candidates as spec;
 
 use crate::keys::{Area, Key};
@@ -47,14 +47,27 @@ impl Candidates {
     }
 
     /// Adds a candidate to a class. It counts once.
-    pub fn add(&mut self, class: Class, module: ModuleName) -> Result<(), NoMemory> {
-        let _new = match class {
-            Class::Own => self.own.insert(module)?,
-            Class::Explicit => self.explicit.insert(module)?,
-            Class::Open => self.open.insert(module)?,
-            Class::Prim => self.prim.insert(module)?,
-        };
-        Ok(())
+    pub fn add(&mut self, class: Class, declarer: ModuleName) -> Result<(), NoMemory>
+        ensures { OnOk result (spec.classes self.new ≡ spec.added class declarer self.old) }
+    {
+        match class {
+            Class::Own => {
+                let _new = self.own.insert(declarer)?;
+                Ok(())
+            }
+            Class::Explicit => {
+                let _new = self.explicit.insert(declarer)?;
+                Ok(())
+            }
+            Class::Open => {
+                let _new = self.open.insert(declarer)?;
+                Ok(())
+            }
+            Class::Prim => {
+                let _new = self.prim.insert(declarer)?;
+                Ok(())
+            }
+        }
     }
 
     /// The first class that has a candidate, or the last one.

@@ -24,6 +24,7 @@ module Basics
   , add
   , sub
   , mul
+  , negate
   , (+)
   , (-)
   , (*)
@@ -50,6 +51,7 @@ infixr 0 apply1 as $
 foreign import add :: Int -> Int -> Int
 foreign import sub :: Int -> Int -> Int
 foreign import mul :: Int -> Int -> Int
+foreign import negate :: Int -> Int
 foreign import eqInt :: Int -> Int -> Boolean
 foreign import lessInt :: Int -> Int -> Boolean
 foreign import showInt :: Int -> String

@@ -1,7 +1,7 @@
 -- Blocks in every place.
 module Layout where
 
-import Basics (otherwise, (+), (-), (*), (<), ($), (<<<))
+import Basics (negate, otherwise, (+), (-), (*), (<), ($), (<<<))
 import Control (class Monad, bind, discard, pure)
 import Maybe (Maybe(..))
 
