@@ -3,8 +3,13 @@
 //! An import without `as` gives names without a module before them, one with `as Q` gives `Q.x` alone. The names of a list
 //! come before those of open and hiding imports. A name in a list that the module does not export is an UnknownImport.
 
+ghost use Rattle.std.specs.Prelude.{◌≡◌, [], ◌∷◌, IfOk, IfErr};
+ghost use Rattle.psc_error.specs.declared.code.Code.TheVariants.{UnknownImport};
+ghost use Rattle.psc_imports.specs.Lists as spec;
+ghost use Rattle.psc_scope.specs.Problems as problems;
+
 use crate::world::{Given, Interface, World};
-use psc_ast::{Ctors, ImportList, ImportTree, Ref, UpperAt};
+use psc_ast::{Ctors, ImportList, ImportTree, ModuleAt, Ref, UpperAt};
 use psc_error::Code;
 use psc_externs::Externs;
 use psc_scope::{Area, Class, Key, Scope, Stop, wrong_name};
@@ -79,7 +84,12 @@ pub fn import_all(
             Some(interface) => rows_of(alloc, world, interface, &import.list)?,
             None => Vec::new(alloc),
         };
-        bring(scope, class_of(&import.list), qualifier_of(import)?, &rows)?;
+        bring(
+            scope,
+            class_of(&import.list),
+            qualifier_of(&import.alias)?,
+            &rows,
+        )?;
         imported.add(import, rows)?;
     }
     if let Some(interface) = world.interface(world.prim()) {
@@ -88,15 +98,21 @@ pub fn import_all(
     Ok(imported)
 }
 
-fn class_of(list: &ImportList) -> Class {
+/// The class of the candidates that an import gives.
+fn class_of(list: &ImportList) -> Class
+    ensures { result ≡ spec.class_of list.now }
+{
     match list {
         ImportList::Only(_) => Class::Explicit,
         ImportList::All | ImportList::Hiding(_) => Class::Open,
     }
 }
 
-fn qualifier_of(import: &ImportTree) -> Result<Option<ModuleName>, NoMemory> {
-    match &import.alias {
+/// What stands before the names that an import gives.
+fn qualifier_of(alias: &Option<ModuleAt>) -> Result<Option<ModuleName>, NoMemory>
+    ensures { IfOk result (λ before. before ≡ spec.alias alias.now) }
+{
+    match alias {
         Some(alias) => Ok(Some(alias.name.clone()?)),
         None => Ok(None),
     }

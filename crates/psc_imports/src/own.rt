@@ -4,6 +4,11 @@
 //! declarations, a class's member is one, and so is a written instance name, but it does not come into scope. A signature
 //! that does not stand directly before its declaration is an OrphanTypeDeclaration, in local bindings too.
 
+ghost use Rattle.std.specs.Prelude.{◌≡◌, [], ◌∷◌, ◌↔◌, IsTrue, IfErr, IsOk};
+ghost use Rattle.psc_error.specs.declared.code.Code.TheVariants.{DuplicateValueDeclaration, OrphanTypeDeclaration};
+ghost use Rattle.psc_imports.specs.Own as spec;
+ghost use Rattle.psc_scope.specs.Problems as problems;
+
 use psc_ast::{ClassDecl, Clause, DataDecl, Decl, FixityDecl, InstanceDecl, KindOf};
 use psc_error::Code;
 use psc_orphans::orphan_in_clause;
@@ -53,7 +58,11 @@ pub fn own_names(alloc: Global, decls: &[Decl]) -> Result<Own, Stop> {
     for (place, decl) in decls.iter().enumerate() {
         match decl {
             Decl::Clause(clause) => {
-                if !goes_on(first, clause) {
+                let is_more = match first {
+                    Some(first) => goes_on(first, clause),
+                    None => false,
+                };
+                if !is_more {
                     own.declare(Area::Value, &clause.name.name.0, clause.span)?;
                     first = Some(clause);
                 }
@@ -69,11 +78,10 @@ pub fn own_names(alloc: Global, decls: &[Decl]) -> Result<Own, Stop> {
 }
 
 /// Whether a clause goes on the declaration that a first clause began: it has its name, and that one has arguments.
-pub fn goes_on(first: Option<&Clause>, clause: &Clause) -> bool {
-    match first {
-        Some(first) => !first.arguments.is_empty() && first.name.name.same(&clause.name.name),
-        None => false,
-    }
+fn goes_on(first: &Clause, clause: &Clause) -> bool
+    ensures { IsTrue result ↔ spec.GoesOn first.now clause.now }
+{
+    !first.arguments.is_empty() && first.name.name.same(&clause.name.name)
 }
 
 /// Whether the next declaration is a clause of the name.
@@ -121,7 +129,11 @@ impl Own {
     }
 
     /// An orphan signature, unless it stands before its declaration.
-    fn unless(&self, stands: bool, name: &Text, span: Span) -> Result<(), Stop> {
+    fn unless(&self, stands: bool, name: &Text, span: Span) -> Result<(), Stop>
+        ensures accepted { IsTrue stands → IsOk result }
+        ensures orphan { IsOk result → IsTrue stands }
+        ensures refused { IfErr result (λ stop. problems.Says stop OrphanTypeDeclaration span (name.now ∷ [])) }
+    {
         if stands {
             Ok(())
         } else {
@@ -130,7 +142,9 @@ impl Own {
     }
 
     /// Counts a name, which must be the first of its kind.
-    fn see(&mut self, area: Area, name: &Text, span: Span) -> Result<(), Stop> {
+    fn see(&mut self, area: Area, name: &Text, span: Span) -> Result<(), Stop>
+        ensures refused { IfErr result (λ stop. problems.Says stop DuplicateValueDeclaration span (name.now ∷ [])) }
+    {
         if self.seen.insert(Key::plain(area, name)?)? {
             Ok(())
         } else {
@@ -226,7 +240,10 @@ impl Own {
     }
 }
 
-fn area_of(fixity: &FixityDecl) -> Area {
+/// The name space of a declared operator.
+fn area_of(fixity: &FixityDecl) -> Area
+    ensures { result ≡ spec.operator_area fixity.now.of_types }
+{
     if fixity.of_types {
         Area::TypeOp
     } else {

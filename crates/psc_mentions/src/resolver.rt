@@ -1,5 +1,10 @@
 //! A mention's true name, and what is noted of it.
 
+ghost use Rattle.std.specs.Prelude.{◌≡◌, IfOk, IfErr};
+ghost use Rattle.psc_scope.specs.Lookup as lookup;
+ghost use Rattle.psc_scope.specs.declared.scope.Found.TheVariants.{One};
+ghost use Rattle.psc_mentions.specs.Refusals as spec;
+
 use psc_ast::{IdentAt, Mention};
 use psc_error::Code;
 use psc_externs::UseRow;
@@ -36,7 +41,12 @@ impl Resolver {
     }
 
     /// The module that declares what a mention names.
-    fn module_of(&self, area: Area, mention: &Mention) -> Result<ModuleName, Stop> {
+    ///
+    /// Wrong with UnknownName where it names nothing, and with ScopeConflict where it names two things.
+    fn module_of(&self, area: Area, mention: &Mention) -> Result<ModuleName, Stop>
+        ensures declared { IfOk result (λ declarer. lookup.found self.now.scope (lookup.key area mention.now.name.name mention.now.name.«module») ≡ One declarer) }
+        ensures refused { IfErr result (λ stop. spec.Refuses (lookup.found self.now.scope (lookup.key area mention.now.name.name mention.now.name.«module»)) mention.now stop) }
+    {
         match self
             .scope
             .find(area, &mention.name.name, &mention.name.module)?

@@ -1,5 +1,5 @@
 -- What a refusal says.
-use Rattle.std.specs.Prelude.{◌≡◌, ℕ, List, Some, Unit}
+use Rattle.std.specs.Prelude.{◌≡◌, ℕ, List, Some, ⊤}
 use Rattle.psc_text.specs.declared.span.Span.{Span}
 use Rattle.psc_error.specs.declared.code.Code.{Code}
 use Rattle.psc_error.specs.declared.error.PsError.{PsError}
@@ -9,7 +9,7 @@ use Rattle.psc_scope.specs.declared.stop.Problem.{Problem}
 
 -- a refusal for want of memory, or one with this code, place and parts
 abbrev pub Says : Stop → Code → Span → List (List ℕ) → Type 0
-Says NoMemory code span parts = Unit
+Says NoMemory code span parts = ⊤
 Says (Wrong problem) code span parts = (problem.code ≡ code) × (problem.span ≡ span) × (problem.parts.items ≡ parts)
 
 -- the error of a module that a problem gives

@@ -2,6 +2,7 @@
 
 ghost use Rattle.std.specs.Prelude.{◌≡◌, None, IfOk, IfSome};
 ghost use Rattle.psc_externs.specs.Entities as entities;
+ghost use Rattle.psc_scope.specs.Lookup as lookup;
 ghost use Rattle.psc_scope.specs.Names as spec;
 
 use psc_externs::{Entity, Name, OpSpace, Space};
@@ -55,7 +56,7 @@ pub struct Key {
 impl Key {
     /// A name as it is written.
     pub fn new(area: Area, name: &Text, qualifier: &Option<ModuleName>) -> Result<Key, NoMemory>
-        ensures { IfOk result (λ key. (key.area ≡ area) × (key.name ≡ name.now) × (key.qualifier ≡ qualifier.now)) }
+        ensures { IfOk result (λ made. made ≡ lookup.key area name.now qualifier.now) }
     {
         Ok(Key {
             area,
@@ -66,7 +67,7 @@ impl Key {
 
     /// A name without a module before it.
     pub fn plain(area: Area, name: &Text) -> Result<Key, NoMemory>
-        ensures { IfOk result (λ key. (key.area ≡ area) × (key.name ≡ name.now) × (key.qualifier ≡ None)) }
+        ensures { IfOk result (λ made. made ≡ lookup.key area name.now None) }
     {
         Ok(Key {
             area,

@@ -4,6 +4,7 @@
 
 ghost use Rattle.std.specs.Prelude.{◌≡◌, [], ◌∷◌, IfOk, OnOk};
 ghost use Rattle.psc_scope.specs.Candidates as spec;
+ghost use Rattle.psc_scope.specs.Lookup as lookup;
 
 use crate::keys::{Area, Key};
 use psc_text::{ModuleName, NoMemory, Text};
@@ -158,7 +159,9 @@ impl Scope {
         area: Area,
         name: &Text,
         qualifier: &Option<ModuleName>,
-    ) -> Result<Found, NoMemory> {
+    ) -> Result<Found, NoMemory>
+        ensures { IfOk result (λ found. found ≡ lookup.found self.now (lookup.key area name.now qualifier.now)) }
+    {
         let key = Key::new(area, name, qualifier)?;
         match self.rows.get(&key) {
             Some(candidates) => candidates.found(self.alloc),
