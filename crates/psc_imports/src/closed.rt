@@ -13,7 +13,7 @@ use std::alloc::Global;
 use std::collections::{BTreeMap, BTreeSet};
 
 /// A name that an export needs.
-#[derive(Debug, Drop)]
+#[derive(Drop)]
 struct Lack {
     span: Span,
     name: Text,

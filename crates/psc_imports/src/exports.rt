@@ -16,14 +16,14 @@ use std::alloc::Global;
 use std::collections::BTreeMap;
 
 /// The exported names, ascending by space and name, and where each is brought.
-#[derive(Debug, Drop)]
+#[derive(Drop)]
 pub struct Exported {
     pub rows: Vec<ExportRow>,
     pub brought: Vec<Span>,
 }
 
 /// The declaring module of an exported name, and the first export that brings it.
-#[derive(Debug, Drop)]
+#[derive(Drop)]
 struct Origin {
     module: ModuleName,
     span: Span,

@@ -18,7 +18,7 @@ use std::alloc::Global;
 use std::collections::{BTreeMap, BTreeSet};
 
 /// What each import gives, by the names under which `module` may export it.
-#[derive(Debug, Drop)]
+#[derive(Drop)]
 pub struct Imported {
     alloc: Global,
     pub lists: Vec<Vec<Given>>,

@@ -18,14 +18,14 @@ use std::alloc::Global;
 use std::collections::{BTreeMap, BTreeSet};
 
 /// A declared name.
-#[derive(Debug, Drop)]
+#[derive(Drop)]
 pub struct OwnName {
     pub area: Area,
     pub name: Text,
 }
 
 /// The declared names of a module.
-#[derive(Debug, Drop)]
+#[derive(Drop)]
 pub struct Own {
     alloc: Global,
     /// In the order of the source.

@@ -9,7 +9,7 @@ use std::alloc::Global;
 use std::collections::{BTreeMap, BTreeSet};
 
 /// A name with the module that declares it.
-#[derive(Debug, Drop)]
+#[derive(Drop)]
 pub struct Given {
     pub area: Area,
     pub name: Text,
@@ -27,7 +27,7 @@ impl Given {
 }
 
 /// What a module exports.
-#[derive(Debug, Drop)]
+#[derive(Drop)]
 pub struct Interface {
     pub rows: Vec<Given>,
     /// The rows of each name, by their places.
@@ -88,7 +88,7 @@ fn add_place<K: Ord + Drop>(
 }
 
 /// The environment by its names.
-#[derive(Debug, Drop)]
+#[derive(Drop)]
 pub struct World {
     alloc: Global,
     prim: ModuleName,
