@@ -1,15 +1,18 @@
 //! Interfaces from short lines, for rows that import.
 //!
-//! A line has a module's name and one of `value f`, `type T`, `class C`, `ctor A T`, `valueop + infixl 6 f` and
-//! `typeop ~> infixr 4 T`. It declares the name and exports it. A further word `of N` at the end says that module N declares it.
+//! A line has a module's name and a declaration: `value f TYPE`, `type T`, `synonym S TYPE`, `ctor A T TYPE`,
+//! `class C f g < D E` (members, superclasses), `valueop + infixl 6 f` or `typeop ~> infixr 4 T`. It declares the name and
+//! exports it; with `-` before the word it is not exported; with `of N` behind it, module N declares it and this one exports it.
+//! A TYPE is words: `T` applied to what follows, `^C` a constraint of C before it, `~` a forall, `{` a row's field.
 
+use crate::types::{constraint_of, true_name, type_of};
 use psc_externs::{
-    Assoc, ClassRow, ConstructorRow, Entity, ExportRow, ExternType, Externs, FixityRow, Name,
-    OpSpace, TrueName,
+    Assoc, ClassRow, ConstructorRow, Entity, ExportRow, ExternConstraint, ExternKind, ExternType,
+    Externs, FixityRow, Name, OpSpace, SynonymRow, TrueName, TypeRow, ValueRow,
 };
 use psc_items::SharedItems;
-use psc_text::{ModuleName, NoMemory, OpName, Qualified, Text, read_module_name};
-use psc_type::Ty;
+use psc_text::{ModuleName, NoMemory, OpName, Text, read_module_name};
+use psc_type::Kind;
 use std::alloc::Global;
 
 /// The rows of a module so far.
@@ -20,6 +23,9 @@ struct Interface {
     constructors: Vec<ConstructorRow>,
     exports: Vec<ExportRow>,
     fixities: Vec<FixityRow>,
+    synonyms: Vec<SynonymRow>,
+    types: Vec<TypeRow>,
+    values: Vec<ValueRow>,
 }
 
 /// The interfaces of a row.
@@ -27,6 +33,14 @@ struct Interface {
 pub(crate) struct Interfaces {
     alloc: Global,
     list: Vec<Interface>,
+}
+
+/// What a word says at the front of a line, with whether it exports.
+fn exported(word: &str) -> (&str, bool) {
+    match word.strip_prefix("-") {
+        Some(kind) => (kind, false),
+        None => (word, true),
+    }
 }
 
 impl Interfaces {
@@ -43,35 +57,29 @@ impl Interfaces {
         for word in line.split_whitespace() {
             words.push(word)?;
         }
-        let (Some(module), Some(kind), Some(name)) = (words.get(0), words.get(1), words.get(2))
-        else {
+        let [module, word, name, rest @ ..] = words.as_slice() else {
             return Ok(());
         };
         let Some(module) = read_module_name(self.alloc, module)? else {
             return Ok(());
         };
-        let place = self.place_of(&module)?;
-        let declarer = self.declarer(&words, &module)?;
-        let own = declarer.same(&module);
+        let (kind, shown) = exported(word);
         let alloc = self.alloc;
+        let other = declarer(alloc, rest)?;
+        let place = self.place_of(&module)?;
         let Some(interface) = self.list.get_mut(place) else {
             return Ok(());
         };
-        if own {
-            interface.declare(alloc, kind, name, &words)?;
-        }
-        interface.export(alloc, kind, name, declarer)
-    }
-
-    /// The module behind the word `of`, else the module itself.
-    fn declarer(&self, words: &[&str], module: &ModuleName) -> Result<ModuleName, NoMemory> {
-        let count = words.len();
-        if count >= 2 && words[count - 2] == "of" {
-            if let Some(other) = read_module_name(self.alloc, words[count - 1])? {
-                return Ok(other);
+        match other {
+            Some(other) => interface.export(alloc, kind, name, other),
+            None => {
+                interface.declare(alloc, kind, name, rest)?;
+                if shown {
+                    interface.export(alloc, kind, name, module)?;
+                }
+                Ok(())
             }
         }
-        Ok(module.clone()?)
     }
 
     fn place_of(&mut self, module: &ModuleName) -> Result<usize, NoMemory> {
@@ -81,23 +89,32 @@ impl Interfaces {
             }
         }
         let place = self.list.len();
-        self.list.push(Interface {
-            module: module.clone()?,
-            classes: Vec::new(self.alloc),
-            constructors: Vec::new(self.alloc),
-            exports: Vec::new(self.alloc),
-            fixities: Vec::new(self.alloc),
-        })?;
+        self.list.push(Interface::new(self.alloc, module.clone()?))?;
         Ok(place)
     }
 
-    pub(crate) fn into_env(self) -> Result<Vec<Externs>, NoMemory> {
+    /// The interfaces of the other modules, and that of the module itself.
+    pub(crate) fn into_env(self, own: &str) -> Result<(Vec<Externs>, Vec<Externs>), NoMemory> {
         let Interfaces { alloc, list } = self;
         let mut env = Vec::new(alloc);
+        let mut owns = Vec::new(alloc);
         for interface in list {
-            env.push(interface.into_externs(alloc)?)?;
+            let externs = interface.into_externs(alloc)?;
+            if externs.module.as_str() == own {
+                owns.push(externs)?;
+            } else {
+                env.push(externs)?;
+            }
         }
-        Ok(env)
+        Ok((env, owns))
+    }
+}
+
+/// The module behind the word `of`.
+fn declarer(alloc: Global, words: &[&str]) -> Result<Option<ModuleName>, NoMemory> {
+    match words {
+        ["of", module] => read_module_name(alloc, module),
+        _ => Ok(None),
     }
 }
 
@@ -105,7 +122,30 @@ fn name_of(alloc: Global, word: &str) -> Result<Option<Name>, NoMemory> {
     Ok(Name::new(Text::new(alloc, word)?))
 }
 
+fn names_of(alloc: Global, words: &[&str]) -> Result<Vec<Name>, NoMemory> {
+    let mut names = Vec::new(alloc);
+    for word in words {
+        if let Some(name) = name_of(alloc, word)? {
+            names.push(name)?;
+        }
+    }
+    Ok(names)
+}
+
 impl Interface {
+    fn new(alloc: Global, module: ModuleName) -> Interface {
+        Interface {
+            module,
+            classes: Vec::new(alloc),
+            constructors: Vec::new(alloc),
+            exports: Vec::new(alloc),
+            fixities: Vec::new(alloc),
+            synonyms: Vec::new(alloc),
+            types: Vec::new(alloc),
+            values: Vec::new(alloc),
+        }
+    }
+
     fn declare(
         &mut self,
         alloc: Global,
@@ -114,36 +154,92 @@ impl Interface {
         words: &[&str],
     ) -> Result<(), NoMemory> {
         match kind {
-            "class" => self.class(alloc, name),
-            "ctor" => match words.get(3) {
-                Some(parent) => self.constructor(alloc, name, parent),
-                None => Ok(()),
-            },
+            "value" => self.value(alloc, name, words),
+            "type" => self.x_type(alloc, name),
+            "synonym" => self.synonym(alloc, name, words),
+            "class" => self.class(alloc, name, words),
+            "ctor" => self.constructor(alloc, name, words),
             "valueop" => self.fixity(alloc, OpSpace::ValueOp, name, words),
-            "typeop" => self.fixity(alloc, OpSpace::TypeOp, name, words),
-            _ => Ok(()),
+            _ => self.fixity(alloc, OpSpace::TypeOp, name, words),
         }
     }
 
-    fn class(&mut self, alloc: Global, name: &str) -> Result<(), NoMemory> {
-        if let Some(name) = name_of(alloc, name)? {
-            self.classes.push(ClassRow {
-                deps: SharedItems::from_vec(alloc, Vec::new(alloc))?,
-                members: SharedItems::from_vec(alloc, Vec::new(alloc))?,
+    fn written(&self, alloc: Global, words: &[&str]) -> Result<Option<ExternType>, NoMemory> {
+        Ok(ExternType::new(type_of(alloc, &self.module, words)?))
+    }
+
+    fn value(&mut self, alloc: Global, name: &str, words: &[&str]) -> Result<(), NoMemory> {
+        let x_type = self.written(alloc, words)?;
+        if let (Some(name), Some(x_type)) = (name_of(alloc, name)?, x_type) {
+            self.values.push(ValueRow { name, x_type })?;
+        }
+        Ok(())
+    }
+
+    fn x_type(&mut self, alloc: Global, name: &str) -> Result<(), NoMemory> {
+        let kind = ExternKind::new(Kind::Star);
+        if let (Some(name), Some(kind)) = (name_of(alloc, name)?, kind) {
+            self.types.push(TypeRow {
+                constructors: SharedItems::from_vec(alloc, Vec::new(alloc))?,
+                kind,
                 name,
-                params: SharedItems::from_vec(alloc, Vec::new(alloc))?,
-                supers: SharedItems::from_vec(alloc, Vec::new(alloc))?,
+                newtype: false,
             })?;
         }
         Ok(())
     }
 
-    fn constructor(&mut self, alloc: Global, name: &str, parent: &str) -> Result<(), NoMemory> {
-        let made = Qualified {
-            module: Some(self.module.clone()?),
-            name: Text::new(alloc, parent)?,
+    fn synonym(&mut self, alloc: Global, name: &str, words: &[&str]) -> Result<(), NoMemory> {
+        self.x_type(alloc, name)?;
+        let body = self.written(alloc, words)?;
+        if let (Some(name), Some(body)) = (name_of(alloc, name)?, body) {
+            self.synonyms.push(SynonymRow {
+                body,
+                name,
+                params: SharedItems::from_vec(alloc, Vec::new(alloc))?,
+            })?;
+        }
+        Ok(())
+    }
+
+    fn class(&mut self, alloc: Global, name: &str, words: &[&str]) -> Result<(), NoMemory> {
+        let mut parts = words.split(|word| *word == "<");
+        let members = match parts.next() {
+            Some(members) => names_of(alloc, members)?,
+            None => Vec::new(alloc),
         };
-        let x_type = ExternType::new(Ty::Con(made));
+        let supers = match parts.next() {
+            Some(supers) => self.supers(alloc, supers)?,
+            None => Vec::new(alloc),
+        };
+        if let Some(name) = name_of(alloc, name)? {
+            self.classes.push(ClassRow {
+                deps: SharedItems::from_vec(alloc, Vec::new(alloc))?,
+                members: SharedItems::from_vec(alloc, members)?,
+                name,
+                params: SharedItems::from_vec(alloc, Vec::new(alloc))?,
+                supers: SharedItems::from_vec(alloc, supers)?,
+            })?;
+        }
+        Ok(())
+    }
+
+    fn supers(&self, alloc: Global, words: &[&str]) -> Result<Vec<ExternConstraint>, NoMemory> {
+        let mut supers = Vec::new(alloc);
+        for word in words {
+            let constraint = constraint_of(alloc, &self.module, word)?;
+            if let Some(constraint) = ExternConstraint::new(constraint) {
+                supers.push(constraint)?;
+            }
+        }
+        Ok(supers)
+    }
+
+    fn constructor(&mut self, alloc: Global, name: &str, words: &[&str]) -> Result<(), NoMemory> {
+        let Some((parent, _fields)) = words.split_first() else {
+            return Ok(());
+        };
+        let x_type = self.written(alloc, words)?;
         let (name, parent) = (name_of(alloc, name)?, name_of(alloc, parent)?);
         if let (Some(name), Some(parent), Some(x_type)) = (name, parent, x_type) {
             self.constructors.push(ConstructorRow {
@@ -162,8 +258,7 @@ impl Interface {
         op: &str,
         words: &[&str],
     ) -> Result<(), NoMemory> {
-        let (Some(side), Some(power), Some(target)) = (words.get(3), words.get(4), words.get(5))
-        else {
+        let [side, power, target] = words else {
             return Ok(());
         };
         let assoc = match *side {
@@ -175,16 +270,14 @@ impl Interface {
             Ok(power) => power,
             Err(_) => 0,
         };
-        if let Some(name) = name_of(alloc, target)? {
+        let (module, name) = true_name(alloc, &self.module, target)?;
+        if let Some(name) = Name::new(name) {
             self.fixities.push(FixityRow {
                 assoc,
                 op: OpName(Text::new(alloc, op)?),
                 precedence,
                 space,
-                target: TrueName {
-                    module: self.module.clone()?,
-                    name,
-                },
+                target: TrueName { module, name },
             })?;
         }
         Ok(())
@@ -197,14 +290,7 @@ impl Interface {
         name: &str,
         module: ModuleName,
     ) -> Result<(), NoMemory> {
-        let entity = match kind {
-            "value" => name_of(alloc, name)?.map(Entity::Value),
-            "type" | "class" => name_of(alloc, name)?.map(Entity::XType),
-            "ctor" => name_of(alloc, name)?.map(Entity::Constructor),
-            "valueop" => Some(Entity::ValueOp(OpName(Text::new(alloc, name)?))),
-            _ => Some(Entity::TypeOp(OpName(Text::new(alloc, name)?))),
-        };
-        if let Some(entity) = entity {
+        if let Some(entity) = entity_of(alloc, kind, name)? {
             self.exports.push(ExportRow { entity, module })?;
         }
         Ok(())
@@ -217,6 +303,9 @@ impl Interface {
             constructors,
             exports,
             fixities,
+            synonyms,
+            types,
+            values,
         } = self;
         Ok(Externs {
             classes: SharedItems::from_vec(alloc, classes)?,
@@ -226,9 +315,19 @@ impl Interface {
             imports: SharedItems::from_vec(alloc, Vec::new(alloc))?,
             instances: SharedItems::from_vec(alloc, Vec::new(alloc))?,
             module,
-            synonyms: SharedItems::from_vec(alloc, Vec::new(alloc))?,
-            types: SharedItems::from_vec(alloc, Vec::new(alloc))?,
-            values: SharedItems::from_vec(alloc, Vec::new(alloc))?,
+            synonyms: SharedItems::from_vec(alloc, synonyms)?,
+            types: SharedItems::from_vec(alloc, types)?,
+            values: SharedItems::from_vec(alloc, values)?,
         })
+    }
+}
+
+fn entity_of(alloc: Global, kind: &str, name: &str) -> Result<Option<Entity>, NoMemory> {
+    match kind {
+        "value" => Ok(name_of(alloc, name)?.map(Entity::Value)),
+        "type" | "synonym" | "class" => Ok(name_of(alloc, name)?.map(Entity::XType)),
+        "ctor" => Ok(name_of(alloc, name)?.map(Entity::Constructor)),
+        "valueop" => Ok(Some(Entity::ValueOp(OpName(Text::new(alloc, name)?)))),
+        _ => Ok(Some(Entity::TypeOp(OpName(Text::new(alloc, name)?)))),
     }
 }

@@ -1,23 +1,28 @@
 //! Reads rows of a source, the interfaces that it imports, and what its names must be.
 //!
 //! `rows.txt`: a line `# name` begins a row; lines `: ..` are interface rows; lines `|text` are its source. Then `= tree` says
-//! what tree the resolved module must be, `+ tree` what it must be once its operators are trees, `u uses` and `e exports` what
-//! it must mention and export, and `! error line` by what error it must be refused.
-//! Printed are the rows that differ, and the counts.
+//! what tree the resolved module must be, `f fixities`, `u uses` and `e exports` what operators it must have and what it must
+//! mention and export, and `! error line` by what error it must be refused. `c closed` or `c error line` says whether the
+//! interface rows of the module itself are closed under its exports.
+//! Printed are the rows that differ, the counts, and for each module of `examples.txt` whether it resolves.
 #![tactic(auto)]
 
+mod corpus;
 mod interfaces;
+mod own;
+mod types;
 
+use crate::corpus::Corpus;
 use crate::interfaces::Interfaces;
+use psc_ast::{Fixity, Side};
 use psc_ast_text::module_text;
 use psc_error::{PsError, error_line};
-use psc_externs::{Entity, ExportRow, Space, UseRow};
-use psc_names::{Resolved, resolve};
-use psc_order::rebracket;
+use psc_externs::{Entity, ExportRow, Externs, Space, UseRow};
+use psc_names::{Resolved, exports_closed, resolve};
 use psc_parse_decl::parse;
-use psc_text::NoMemory;
+use psc_text::{ModuleName, NoMemory};
 use std::alloc::Global;
-use std::{fs, io, mem};
+use std::{fs, mem};
 
 /// The path that error lines name.
 const PATH: &str = "M.purs";
@@ -26,9 +31,10 @@ const PATH: &str = "M.purs";
 #[derive(Clone, Copy, Debug, PartialEq, Eq)]
 enum Look {
     Resolved,
-    Bracketed,
+    Fixities,
     Uses,
     Exports,
+    Closed,
 }
 
 /// The row that is being read, and what was found so far.
@@ -93,24 +99,66 @@ fn export_text(alloc: Global, row: &ExportRow, line: u32, column: u32) -> Result
     Ok(format!(in alloc; "{} {}.{} by {}:{}", word, module, name, line, column)?)
 }
 
-fn bracketed_text(alloc: Global, resolved: Resolved) -> Result<String, NoMemory> {
-    let Resolved {
-        module,
-        fixities,
-        ..
-    } = resolved;
-    match rebracket(alloc, module, &fixities)? {
-        Ok(module) => module_text(alloc, &module, false),
+fn side_word(side: Side) -> &'static str {
+    match side {
+        Side::Left => "infixl",
+        Side::Right => "infixr",
+        Side::Neither => "infix",
+    }
+}
+
+fn module_word(module: &Option<ModuleName>) -> &str {
+    match module {
+        Some(module) => module.as_str(),
+        None => "?",
+    }
+}
+
+fn fixity_text(alloc: Global, row: &Fixity) -> Result<String, NoMemory> {
+    let (side, power) = (side_word(row.side), row.power);
+    let (op, target) = (row.op.name.as_str(), row.target.name.as_str());
+    let (module, other) = (module_word(&row.op.module), module_word(&row.target.module));
+    let space = if row.of_types { " type" } else { "" };
+    Ok(format!(in alloc; "{side} {power}{space} {other}.{target} as {module}.{op}")?)
+}
+
+fn fixities_text(alloc: Global, rows: &[Fixity]) -> Result<String, NoMemory> {
+    let mut text = String::new(alloc);
+    for row in rows {
+        let part = fixity_text(alloc, row)?;
+        if !text.is_empty() {
+            text.push_str(", ")?;
+        }
+        text.push_str(part.as_str())?;
+    }
+    if text.is_empty() {
+        text.push_str("none")?;
+    }
+    Ok(text)
+}
+
+fn closed_text(alloc: Global, resolved: &Resolved, owns: &[Externs]) -> Result<String, NoMemory> {
+    let Some(own) = owns.first() else {
+        return Ok(String::from_str(alloc, "no interface of the module itself")?);
+    };
+    match exports_closed(alloc, &resolved.exports, &resolved.brought, own)? {
+        Ok(()) => Ok(String::from_str(alloc, "closed")?),
         Err(error) => error_text(alloc, &error),
     }
 }
 
-fn resolved_text(alloc: Global, resolved: Resolved, look: Look) -> Result<String, NoMemory> {
+fn resolved_text(
+    alloc: Global,
+    resolved: Resolved,
+    look: Look,
+    owns: &[Externs],
+) -> Result<String, NoMemory> {
     match look {
         Look::Resolved => module_text(alloc, &resolved.module, false),
-        Look::Bracketed => bracketed_text(alloc, resolved),
+        Look::Fixities => fixities_text(alloc, resolved.fixities.rows.as_slice()),
         Look::Uses => uses_text(alloc, &resolved.uses),
         Look::Exports => exports_text(alloc, &resolved),
+        Look::Closed => closed_text(alloc, &resolved, owns),
     }
 }
 
@@ -141,12 +189,13 @@ impl Rows {
 
     /// What the row gives.
     fn outcome(&mut self, alloc: Global, look: Look) -> Result<String, NoMemory> {
-        let env = mem::replace(&mut self.interfaces, Interfaces::new(alloc)).into_env()?;
+        let interfaces = mem::replace(&mut self.interfaces, Interfaces::new(alloc));
+        let (env, owns) = interfaces.into_env("M")?;
         match parse(alloc, self.source.as_str())? {
             Err(error) => error_text(alloc, &error),
             Ok(module) => match resolve(alloc, module, &env)? {
                 Err(error) => error_text(alloc, &error),
-                Ok(resolved) => resolved_text(alloc, resolved, look),
+                Ok(resolved) => resolved_text(alloc, resolved, look, &owns),
             },
         }
     }
@@ -190,8 +239,11 @@ impl Rows {
         if let Some(want) = line.strip_prefix("= ") {
             return self.end(alloc, want, Look::Resolved);
         }
-        if let Some(want) = line.strip_prefix("+ ") {
-            return self.end(alloc, want, Look::Bracketed);
+        if let Some(want) = line.strip_prefix("f ") {
+            return self.end(alloc, want, Look::Fixities);
+        }
+        if let Some(want) = line.strip_prefix("c ") {
+            return self.end(alloc, want, Look::Closed);
         }
         if let Some(want) = line.strip_prefix("u ") {
             return self.end(alloc, want, Look::Uses);
@@ -200,7 +252,7 @@ impl Rows {
             return self.end(alloc, want, Look::Exports);
         }
         if let Some(want) = line.strip_prefix("! ") {
-            return self.end(alloc, want, Look::Bracketed);
+            return self.end(alloc, want, Look::Uses);
         }
         Ok(())
     }
@@ -220,11 +272,21 @@ fn read_rows(alloc: Global, text: &str) -> Result<String, NoMemory> {
     Ok(format!(in alloc; "{}{} rows, {} differ", report, count, differing)?)
 }
 
-fn main(rt: HostRuntime) -> io::Result<()> {
+/// Whether the modules resolve, a line for each.
+fn read_examples(rt: &HostRuntime, alloc: Global, names: &str) -> anyhow::Result<()> {
+    let mut corpus = Corpus::new(alloc);
+    for name in names.lines() {
+        let path = format!(in alloc; "examples/{name}.purs")?;
+        let source = fs::read_to_string(rt, path.as_str())?;
+        rt.println(corpus.next(name, source.as_str())?)?;
+    }
+    Ok(())
+}
+
+fn main(rt: HostRuntime) -> anyhow::Result<()> {
     let alloc = rt.alloc();
     let rows = fs::read_to_string(&rt, "rows.txt")?;
-    match read_rows(alloc, rows.as_str()) {
-        Ok(text) => rt.println(text),
-        Err(NoMemory) => rt.println("out of memory"),
-    }
+    rt.println(read_rows(alloc, rows.as_str())?)?;
+    let names = fs::read_to_string(&rt, "examples.txt")?;
+    read_examples(&rt, alloc, names.as_str())
 }

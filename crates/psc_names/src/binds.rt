@@ -1,11 +1,9 @@
 //! Local bindings, right sides, alternatives and statements with true names.
 
-use crate::binders::{binder, binders, bound_names};
 use crate::exprs::{boxed, expr, made_call};
-use crate::resolver::{Resolver, copy, ident};
-use crate::stop::Stop;
-use crate::types::{front_vars, signature};
 use psc_ast::{Alt, Bind, Branch, Clause, ExprTree, Guard, Locals, Mention, Rhs, Sig, Stmt, Test};
+use psc_mentions::{Resolver, binder, binders, bound_names, copy, front_vars, ident, signature};
+use psc_scope::Stop;
 use psc_text::{NoMemory, Span, Text};
 use sqlite_items::{Boxed, Items};
 

@@ -1,14 +1,14 @@
 //! Declarations with true names.
 
 use crate::binds::{Signed, clause};
-use crate::keys::Area;
-use crate::resolver::{Resolver, ident};
-use crate::stop::Stop;
-use crate::types::{add_all_vars, bind_vars, constraint_list, kind, signature, typ, typs};
 use psc_ast::{
     ClassDecl, Clause, Ctor, DataDecl, Decl, Dep, FixityDecl, IdentAt, InstanceDecl, OpAt, Sig,
     SynonymDecl, UpperAt,
 };
+use psc_mentions::{
+    Resolver, add_all_vars, bind_vars, constraint_list, ident, kind, signature, typ, typs,
+};
+use psc_scope::{Area, Stop};
 use psc_text::NoMemory;
 use sqlite_items::Items;
 

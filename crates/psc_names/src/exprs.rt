@@ -4,13 +4,10 @@
 //! value one of `bind` or `discard`, and the steps and the result of an `ado` those of `map`, `apply` and `pure`. These calls
 //! stand in the resolved tree, as calls of one argument.
 
-use crate::binders::binders;
 use crate::binds::{alternatives, bind_segments, do_statements};
-use crate::keys::Area;
-use crate::resolver::Resolver;
-use crate::stop::Stop;
-use crate::types::{label, typ};
 use psc_ast::{ChainStep, ExprTree, Field, Mention, TickStep, Update};
+use psc_mentions::{Resolver, binders, label, typ};
+use psc_scope::{Area, Stop};
 use psc_text::{NoMemory, Qualified, Span};
 use sqlite_items::{Boxed, Items};
 use std::alloc::Global;

@@ -1,18 +1,13 @@
 //! The phases of a module's names: imports, own declarations, export names, mentions.
 
 use crate::decls::all_decls;
-use crate::exports::{Exported, export_all};
-use crate::imports::import_all;
-use crate::keys::{Area, Key};
-use crate::own::own_names;
-use crate::resolver::Resolver;
-use crate::scope::Scope;
-use crate::stop::{Stop, error_of};
-use crate::world::World;
 use psc_ast::{Decl, Fixities, Fixity, FixityDecl, Module, Side};
 use psc_error::PsError;
 use psc_externs::{Assoc, ExportRow, Externs, FixityRow, OpSpace, UseRow};
+use psc_imports::{Exported, World, export_all, import_all, own_names};
 use psc_items::SharedItems;
+use psc_mentions::Resolver;
+use psc_scope::{Area, Key, Scope, Stop, error_of};
 use psc_text::{ModuleName, NoMemory, Qualified, Span, Text};
 use sqlite_items::Items;
 use std::alloc::Global;
