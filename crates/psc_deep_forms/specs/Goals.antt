@@ -18,7 +18,7 @@ widths_of scrutinees = record { scrutinees = scrutinees; binders = 1; fit = true
 
 -- an alternative has one more binder
 abbrev pub with_binder : Widths → Widths
-with_binder w = record { scrutinees = w.scrutinees; binders = min (w.binders + 1) (2 ^ 32 - 1); fit = w.fit }
+with_binder w = record { scrutinees = w.scrutinees; binders = min (w.binders + 1) (2 ^ 64 - 1); fit = w.fit }
 
 -- behind an alternative: each has as many binders as there are scrutinees, so far
 abbrev pub ended : Widths → Widths

@@ -19,7 +19,7 @@ fn begins_pattern(syms: &[Sym]) -> bool {
 
 impl Widths {
     /// Before the first alternative of a `case` with so many scrutinees.
-    fn of(scrutinees: u32) -> Widths
+    fn of(scrutinees: usize) -> Widths
         ensures { result ≡ spec.widths_of scrutinees }
     {
         Widths {
@@ -95,7 +95,7 @@ impl Reader {
     pub(crate) fn scrutinee<'a>(
         &mut self,
         syms: &'a [Sym],
-        number: u32,
+        number: usize,
     ) -> Result<&'a [Sym], Fault> {
         let more = Goal::MoreScrutinees(number);
         if is_scrutinee_hole(syms) {
@@ -107,7 +107,7 @@ impl Reader {
     pub(crate) fn more_scrutinees<'a>(
         &mut self,
         syms: &'a [Sym],
-        number: u32,
+        number: usize,
     ) -> Result<&'a [Sym], Fault> {
         if let Some(rest) = eat(syms, Sign::Comma) {
             return self.stay(rest, &[Goal::Scrutinee(number.saturating_add(1))]);

@@ -23,9 +23,9 @@ pub(crate) enum Steps {
 /// How many scrutinees a `case` has, and how its alternatives fit them.
 #[derive(Clone, Copy)]
 pub(crate) struct Widths {
-    pub(crate) scrutinees: u32,
+    pub(crate) scrutinees: usize,
     /// How many binders the alternative that is being read has so far.
-    pub(crate) binders: u32,
+    pub(crate) binders: usize,
     /// Whether each alternative before has as many binders as there are scrutinees.
     pub(crate) fit: bool,
 }
@@ -87,8 +87,8 @@ pub(crate) enum Goal {
     MoreUpdates,
 
     /// The scrutinee of this number.
-    Scrutinee(u32),
-    MoreScrutinees(u32),
+    Scrutinee(usize),
+    MoreScrutinees(usize),
     Alternative(Widths),
     /// The other binders of an alternative, and what stands behind them.
     AlternativeEnd(Widths),
