@@ -2,12 +2,13 @@
 //!
 //! The names that a binder binds come into scope at once, and are counted in the list in which it stands.
 
+use crate::scope::Scope;
 use crate::state::{Desugar, Names};
 use crate::stop::Stop;
 use crate::types::typ;
 use psc_ast::{BinderField, BinderTree, IdentAt};
 use psc_plain::{PlainBinder, PlainBinderField};
-use psc_text::{Ident, Span, Text};
+use psc_text::{Ident, NoMemory, Span, Text};
 use sqlite_items::{Boxed, Items};
 
 /// Counts a name in its binder list, and brings it into scope.
@@ -203,4 +204,54 @@ fn field_list(
         })?;
     }
     Ok(list)
+}
+
+/// Brings the names that a binder binds into scope.
+#[cycle(entering)]
+pub(crate) fn enter_names(scope: &mut Scope, tree: &BinderTree) -> Result<(), NoMemory> {
+    match tree {
+        BinderTree::Variable { name } => scope.enter(&name.name.0),
+        BinderTree::Named { names, inner, .. } => {
+            for name in names.as_slice() {
+                scope.enter(&name.name.0)?;
+            }
+            enter_names(scope, inner.get())
+        }
+        BinderTree::Paren { inner, .. } | BinderTree::Typed { inner, .. } => {
+            enter_names(scope, inner.get())
+        }
+        BinderTree::Constructor { arguments, .. } => enter_all_names(scope, arguments.as_slice()),
+        BinderTree::Operation { left, right, .. } => {
+            enter_names(scope, left.get())?;
+            enter_names(scope, right.get())
+        }
+        BinderTree::Array { items, .. } => enter_all_names(scope, items.as_slice()),
+        BinderTree::XRecord { fields, .. } => enter_field_names(scope, fields.as_slice()),
+        // Bracketing left no chain.
+        BinderTree::Chain { first, .. } => enter_names(scope, first.get()),
+        BinderTree::Wild { .. }
+        | BinderTree::Integer { .. }
+        | BinderTree::Str { .. }
+        | BinderTree::Character { .. }
+        | BinderTree::Boolean { .. } => Ok(()),
+    }
+}
+
+#[cycle(entering)]
+fn enter_all_names(scope: &mut Scope, trees: &[BinderTree]) -> Result<(), NoMemory> {
+    for tree in trees {
+        enter_names(scope, tree)?;
+    }
+    Ok(())
+}
+
+#[cycle(entering)]
+fn enter_field_names(scope: &mut Scope, fields: &[BinderField]) -> Result<(), NoMemory> {
+    for field in fields {
+        match &field.value {
+            Some(value) => enter_names(scope, value.get())?,
+            None => scope.enter(&field.label.label.0)?,
+        }
+    }
+    Ok(())
 }

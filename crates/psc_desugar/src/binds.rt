@@ -1,6 +1,6 @@
 //! Local bindings and clauses in plain forms.
 
-use crate::binders::{binder, binders};
+use crate::binders::{binder, binders, enter_names};
 use crate::build::{all_variables, alternative, case_of_one, made_all, made_lambdas};
 use crate::exprs::{branch_of, enter_variables, expr, named_lambdas, right_side};
 use crate::groups::groups_of;
@@ -84,7 +84,7 @@ pub(crate) fn add_layers(
             }
             Bind::Sig(_) | Bind::Clause(_) => {
                 if begins_segment(binds, place) {
-                    let segment = &binds[place..place + segment_len(&binds[place..])];
+                    let segment = segment_at(binds, place);
                     layers.push(Layer::Groups(segment_of(state, segment, names)?))?;
                 }
             }
@@ -101,15 +101,16 @@ fn begins_segment(binds: &[Bind], place: usize) -> bool {
     }
 }
 
-/// How many bindings stand before the first one by a binder.
-fn segment_len(binds: &[Bind]) -> usize {
-    match binds
-        .iter()
-        .position(|bind| matches!(bind, Bind::Value { .. }))
-    {
-        Some(len) => len,
-        None => binds.len(),
+/// The bindings from a place on that stand before the next one by a binder.
+fn segment_at(binds: &[Bind], place: usize) -> &[Bind] {
+    let mut end = place;
+    for bind in binds.iter().skip(place) {
+        if matches!(bind, Bind::Value { .. }) {
+            break;
+        }
+        end = end.saturating_add(1);
     }
+    binds.get(place..end).unwrap_or(&[])
 }
 
 /// Puts layers round a body, the last one first.
@@ -153,15 +154,12 @@ fn wrap_one(
     }
 }
 
-/// Brings the names of bindings into scope, as if binders had bound them.
-fn enter_bound(state: &mut Desugar, binds: &[Bind]) -> Result<(), Stop> {
+/// Brings the names of bindings into scope, as if binders had bound them. What is wrong with them is found later.
+fn enter_bound(state: &mut Desugar, binds: &[Bind]) -> Result<(), NoMemory> {
     for bind in binds {
         match bind {
             Bind::Clause(clause) => state.scope.enter(&clause.name.name.0)?,
-            Bind::Value { binder: bound, .. } => {
-                let mut names = state.names();
-                let _plain = binder(state, bound, &mut names)?;
-            }
+            Bind::Value { binder, .. } => enter_names(&mut state.scope, binder)?,
             Bind::Sig(_) => (),
         }
     }
@@ -226,7 +224,8 @@ fn bind_of(
     };
     names.add(&first.name.name.0, first.span)?;
     let signature = signature_before(state, binds, run.from)?;
-    let body = value_of_binds(state, &binds[run.from..run.to])?;
+    let clauses = binds.get(run.from..run.to).unwrap_or(&[]);
+    let body = value_of_binds(state, clauses)?;
     Ok(PlainBind {
         name: first.name.name.clone()?,
         name_span: first.name.span,

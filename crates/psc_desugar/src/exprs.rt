@@ -516,6 +516,16 @@ fn brackets(state: &mut Desugar, tree: &ExprTree) -> Result<PlainExpr, Stop> {
     }
 }
 
+/// A label alone, which stands for the variable of its name.
+fn pun(state: &mut Desugar, field: &Field) -> Result<PlainExpr, NoMemory> {
+    let name = &field.label.label.0;
+    state.scope.mention(name)?;
+    Ok(PlainExpr::Variable {
+        name: local(Ident(name.clone()?)),
+        span: field.label.span,
+    })
+}
+
 /// The fields of a record, no two of which have one label. A label alone stands for the variable of its name.
 #[cycle(exprs)]
 fn field_list(state: &mut Desugar, fields: &[Field]) -> Result<Items<PlainField>, Stop> {
@@ -527,10 +537,7 @@ fn field_list(state: &mut Desugar, fields: &[Field]) -> Result<Items<PlainField>
         names.add_label(&field.label.label.0, label_span)?;
         let value = match &field.value {
             Some(value) => expr(state, value.get())?,
-            None => PlainExpr::Variable {
-                name: local(Ident(field.label.label.0.clone()?)),
-                span: label_span,
-            },
+            None => pun(state, field)?,
         };
         list.push(PlainField {
             label,

@@ -48,7 +48,7 @@ pub(crate) fn do_block(
     let mut steps = Vec::new(state.alloc);
     let mut last = None;
     for (place, statement) in statements.iter().enumerate() {
-        let is_last = statements.len() - place == 1;
+        let is_last = place.saturating_add(1) == statements.len();
         match statement {
             Stmt::Run { value } if is_last => last = Some(expr(state, value)?),
             _ => steps.push(step_of(state, statement)?)?,
@@ -196,7 +196,7 @@ fn handed_to(
 pub(crate) fn ado(
     state: &mut Desugar,
     statements: &[Stmt],
-    result: &ExprTree,
+    value: &ExprTree,
     span: Span,
 ) -> Result<PlainExpr, Stop> {
     let variables = steps_are_variables(statements);
@@ -226,7 +226,7 @@ pub(crate) fn ado(
         }
     }
     state.scope.enter_all(&inner)?;
-    let body = ado_result(state, result, layers, count, span)?;
+    let body = ado_result(state, value, layers, count, span)?;
     if count == 0 {
         return Ok(body);
     }
@@ -238,7 +238,7 @@ pub(crate) fn ado(
 #[cycle(exprs)]
 fn ado_result(
     state: &mut Desugar,
-    result: &ExprTree,
+    value: &ExprTree,
     layers: Vec<Layer>,
     count: usize,
     span: Span,
@@ -247,7 +247,7 @@ fn ado_result(
         of_where: false,
         span,
     };
-    match result {
+    match value {
         ExprTree::Call {
             function,
             arguments,
@@ -269,7 +269,7 @@ fn ado_result(
             Ok(whole)
         }
         _ => {
-            let body = expr(state, result)?;
+            let body = expr(state, value)?;
             Ok(wrap(state.alloc, layers, body, place)?)
         }
     }

@@ -8,7 +8,7 @@ use crate::cut::{Left, cut_line, first_item, next_item};
 use crate::decls::decl;
 use crate::head::{Line, read_line};
 use crate::outside::has_outside_form;
-use crate::range::first_wide;
+use crate::range::{WideLiteral, first_wide};
 use crate::refs::import;
 use crate::verdict::{NESTING_LIMIT, Wrong, error_at, refusal, wrong_of};
 use psc_ast::{Decl, ImportTree, Module, ModuleAt};
