@@ -1,4 +1,4 @@
-use Rattle.std.proofs.Common.{◌≡◌, ◌<◌, ◌∷◌, ◌++◌, [], drop, length, slice_get, Some, rules, arith}
+use Rattle.std.proofs.Common.{◌≡◌, ◌<◌, ◌∷◌, ◌++◌, [], length, rules, arith}
 use Rattle.std.proofs.lemmas.Option.{slice_get-get_or}
 use Rattle.psc_brackets.specs.declared.chain.Turn.TheVariants as turn
 use Rattle.psc_chain.proofs.Building.{starts, can_take, goes_on, last_stands, whole, drop_next, drop_none}
