@@ -115,7 +115,7 @@ fn walk_values(walk: &mut Walk, module: &Module) -> Result<Links, NoMemory> {
     for decl in decls {
         match decl {
             Decl::Clause(one) => {
-                walk.begin(walk.tables.named(&one.name.name.0));
+                walk.begin_value(&one.name.name.0);
                 clause(walk, one)?;
             }
             Decl::Instance(instance) => {

@@ -16,7 +16,11 @@ enum Slot {
     /// A name that a binder binds.
     Bound,
     /// A member of a block: the block's depth and number, and the member's number.
-    Member { depth: usize, block: u32, number: u32 },
+    Member {
+        depth: usize,
+        block: u32,
+        number: u32,
+    },
 }
 
 /// What the members of a block mention of one another.
@@ -210,6 +214,12 @@ impl Walk {
         }
     }
 
+    /// Goes on with the own value of a name.
+    pub(crate) fn begin_value(&mut self, name: &Text) {
+        let number = self.tables.named(name);
+        self.begin(number);
+    }
+
     /// Ends the innermost block, and looks for its members that need themselves.
     pub(crate) fn close(&mut self) -> Result<(), NoMemory> {
         let Some(block) = self.blocks.pop() else {
@@ -322,7 +332,11 @@ impl Walk {
 }
 
 /// For each declaration the number of its group.
-fn group_numbers(alloc: Global, groups: &[BindingGroup], count: usize) -> Result<Vec<u32>, NoMemory> {
+fn group_numbers(
+    alloc: Global,
+    groups: &[BindingGroup],
+    count: usize,
+) -> Result<Vec<u32>, NoMemory> {
     let mut numbers = Vec::new(alloc);
     for _ in 0..count {
         numbers.push(0)?;
@@ -372,7 +386,10 @@ pub(crate) fn groups_of(
 }
 
 /// For each declaration whether it reaches itself.
-pub(crate) fn reach_themselves(alloc: Global, mentions: &[Vec<u32>]) -> Result<Vec<bool>, NoMemory> {
+pub(crate) fn reach_themselves(
+    alloc: Global,
+    mentions: &[Vec<u32>],
+) -> Result<Vec<bool>, NoMemory> {
     let groups = groups_of(alloc, mentions)?;
     bare_cycles(alloc, &groups, mentions)
 }

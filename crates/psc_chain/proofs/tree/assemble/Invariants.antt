@@ -1,5 +1,5 @@
-use Rattle.std.proofs.Common.{◌≡◌, drop}
-use Rattle.psc_brackets.specs.Right.{Tree, operators_of, IsTheWalk}
+use Rattle.std.proofs.Common.{drop}
+use Rattle.psc_brackets.specs.Right.{IsTheWalk}
 use Rattle.psc_chain.specs.Built.{IsOnTheWay}
 use Rattle.psc_chain.proofs.tree.assemble.Given as goal
 

@@ -1,5 +1,4 @@
-use Rattle.std.proofs.Common.{◌≡◌, refl, rules, sym, ◌∙◌}
-use Rattle.std.proofs.lemmas.Result.{MatchResult-at_ok, MatchResult-at_err}
+use Rattle.std.proofs.Common.{rules}
 use Rattle.psc_brackets.specs.Right.{IsTheWalk, IsTheClash}
 use Rattle.psc_chain.specs.Built.{IsTree, IsClash, IsTooDeep, IsTreeOf}
 use Rattle.psc_chain.proofs.tree.tree_of.Goals as goal
