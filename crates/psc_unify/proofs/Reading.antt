@@ -1,5 +1,5 @@
 -- A type that is read from the graph has the values of the graph.
-use Rattle.std.proofs.Common.{◌≡◌, ℕ, ◌<◌, zero, suc, List, Bool, true, false, cond, length, Option, Some, None, slice_get, get_or, ap, refl, sym, ◌∙◌, ◌⊎◌, inl, inr, eqb, arith}
+use Rattle.std.proofs.Common.{◌≡◌, ℕ, ◌<◌, zero, suc, List, Bool, true, false, cond, length, Option, Some, None, slice_get, get_or, ap, refl, sym, subst, ◌∙◌, ◌⊎◌, inl, inr, eqb, arith}
 use Rattle.std.proofs.lemmas.Bool.Decides.{eqb_tells}
 use Rattle.std.specs.Ordering.{nat_cmp, is_eq}
 use Rattle.std.specs.declared.cmp.Ordering.TheVariants.{Less, Greater}
@@ -9,6 +9,8 @@ use Rattle.psc_text.specs.declared.names.Label.{Label}
 use Rattle.psc_text.specs.declared.names.Ident.{Ident}
 use Rattle.psc_graph.specs.Tree.{Tree, TAtom, TJoin, put}
 use Rattle.psc_graph.specs.General.{kind_of}
+use Rattle.psc_graph.specs.Model.{Solves}
+use Rattle.psc_graph.specs.declared.node.Node.{Node}
 use Rattle.psc_graph.specs.declared.node.Node.TheVariants.{Atom, Join, Field}
 use Rattle.psc_graph.specs.declared.node.Leaf.{Leaf}
 use Rattle.psc_graph.specs.declared.node.Leaf.TheVariants as leaf
@@ -38,6 +40,10 @@ not_at k q ne = elim (less_or_more k q ne) [
   | inl lt ↦ rw (← nat_cmp_is k q Less lt) refl
   | inr gt ↦ rw (← nat_cmp_is k q Greater gt) refl
 ]
+
+-- a node that was looked up in a slice of the list
+pub looked : (xs ys : List Node) (k : ℕ) (n m : Node) → Some n ≡ slice_get xs k → xs ≡ ys → n ≡ m → slice_get ys k ≡ Some m
+looked xs ys k n m at is same = rw (← is, ← same) (sym at)
 
 module _ (s : State) where
   pub reads_leaf : (t : Ty) (p : ℕ) (l : Leaf) → slice_get s.graph.nodes.items p ≡ Some (Atom l) → IsLeafOf s t l → Reads s t p
@@ -97,4 +103,10 @@ module _ (s : State) where
           rw (← same, ← h.1) is)
       | inr h ↦ all.each q x (sym (u.2 q (not_at p q h.1)) ∙ e)
     ];
+  }
+
+  -- at the other end of links
+  pub reads_at : (nodes : List Node) (t : Ty) (place end : ℕ) → nodes ≡ s.graph.nodes.items → ((v : ℕ → Tree) → Solves v nodes → v place ≡ v end) → Reads s t end → Reads s t place
+  reads_at nodes t place end is same reads = record {
+    value = λ e v fits sol. reads.value e v fits sol ∙ sym (same v (subst (Solves v) (sym is) sol.solves));
   }

@@ -1,5 +1,5 @@
 use Rattle.std.proofs.Common.{◌∙◌}
-use Rattle.psc_unify.proofs.Solving.{stands_equal, none_equal}
+use Rattle.psc_unify.proofs.Equating.{stands_equal, none_equal}
 use Rattle.psc_unify.proofs.equate.relate.Goals as goal
 
 pub returns-in-Ok-clause-solved : goal.returns-in-Ok-clause-solved

@@ -1,6 +1,6 @@
 use Rattle.std.proofs.Common.{◌∷◌, List, ℕ, subst, sym, refl}
 use Rattle.psc_unify.specs.Solved.{Stands}
-use Rattle.psc_unify.proofs.Solving.{stands_graph, plain_slice}
+use Rattle.psc_unify.proofs.Standing.{stands_graph, plain_slice}
 use Rattle.psc_unify.proofs.solver.add_equation.Goals as goal
 
 pub returns-in-Ok-clause-solved : goal.returns-in-Ok-clause-solved
