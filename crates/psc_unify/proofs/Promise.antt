@@ -1,11 +1,12 @@
 -- A solver whose state stands at the equations is at a most general solution of them.
-use Rattle.std.proofs.Common.{◌≡◌, ℕ, ◌<◌, List, Option, None, Some, slice_get, get_or, length, sym, ap, refl, ◌∙◌, subst, arith}
+use Rattle.std.proofs.Common.{◌≡◌, ℕ, ◌<◌, List, Option, None, Some, slice_get, get_or, length, sym, ap, refl, ◌∙◌, subst, true, false, arith}
 use Rattle.std.proofs.lemmas.Option.{slice_get_within, slice_get-get_or}
 use Rattle.psc_graph.specs.Tree.{Tree}
 use Rattle.psc_graph.specs.General.{kind_of}
 use Rattle.psc_type.specs.declared.ty.Ty.{Ty}
 use Rattle.psc_unify.specs.declared.state.State.{State}
 use Rattle.psc_unify.specs.declared.solver.Solver.{Solver}
+use Rattle.psc_unify.specs.declared.solver.Clash.{Clash}
 use Rattle.psc_unify.specs.Naming.{Naming}
 use Rattle.psc_unify.specs.Meaning.{tree}
 use Rattle.psc_unify.specs.Reading.{place_or, place_of, valued, Reads}
@@ -59,3 +60,7 @@ pub solved_again : (s t : Solver) (kinds : List ℕ) (eqs : List (Ty × Ty)) →
 solved_again s t kinds eqs clash state h =
     solved_by t kinds eqs (clash ∙ h.running)
     (subst (λ (x : State). Stands x.graph x.names x.unknowns.items kinds eqs) (sym state) h.stands)
+
+-- a clash of scopes is no other clash
+pub other_flag : (a b : Clash) → a ≡ b → a.scopes_only ≡ true → b.scopes_only ≡ false → ⊥
+other_flag a b same yes no = let z : true ≡ false = sym yes ∙ ap (λ (x : Clash). x.scopes_only) same ∙ no in cc

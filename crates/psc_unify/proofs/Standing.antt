@@ -35,7 +35,7 @@ stands_named graph old new unknowns kinds eqs c s = record {
 -- what was written and taken back in a graph does not matter
 pub stands_graph : (g h : Graph) (names : Names) (unknowns kinds : List ℕ) (eqs : List (Ty × Ty)) → h.nodes ≡ g.nodes → h.kinds ≡ g.kinds → Stands g names unknowns kinds eqs → Stands h names unknowns kinds eqs
 stands_graph g h names unknowns kinds eqs nodes list s =
-    let is = ap (λ v. v.items) nodes in
+    let is : h.nodes.items ≡ g.nodes.items = ap (λ v. v.items) nodes in
     record {
       ready = rw (is, ap (λ v. v.items) list) s.ready;
       count = s.count;

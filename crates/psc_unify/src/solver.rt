@@ -209,7 +209,8 @@ impl Solver {
         ensures clash { (clash : Clash) → result ≡ Ok (Err clash) → clash.scopes_only ≡ false → ArePlainIn self.old a.now b.now → (kinds : List ℕ) (eqs : List (Ty × Ty)) → IsSolved self.old kinds eqs → IsUnsolvable self.new kinds ((a.now, b.now) ∷ eqs) }
     {
         if let Some(clash) = &self.clash {
-            return Ok(Err(copy_clash(clash)?));
+            let copy = copy_clash(clash)?;
+            return Ok(Err(copy));
         }
         let ended = add_equation(alloc, &mut self.state, a, b)?;
         match ended {
@@ -219,8 +220,8 @@ impl Solver {
                 Ok(Err(clash))
             }
             Ended::Escaped => {
-                let clash = self.refuse(alloc, a, b, true)?;
-                Ok(Err(clash))
+                let escape = self.refuse(alloc, a, b, true)?;
+                Ok(Err(escape))
             }
         }
     }

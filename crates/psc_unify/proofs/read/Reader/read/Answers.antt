@@ -6,5 +6,5 @@ loop-init c = λ ready all. all
 pub loop-preserved : goal.loop-preserved
 loop-preserved c = λ ready all. c.in_ok-visit.ensures ready (c.loop.invariant ready all)
 
-pub returns-in_ok-copy : goal.returns-in_ok-copy
-returns-in_ok-copy c = λ ready all. rw (c.in_ok-copy.ensures, c.get.ensures) (c.in_ok-ty.ensures (c.loop.invariant ready all))
+pub returns-in_ok-copy-in_default : goal.returns-in_ok-copy-in_default
+returns-in_ok-copy-in_default c = λ ready all. rw (c.in_ok-copy-in_default.ensures, c.get.ensures) (c.in_ok-ty-in_default.ensures (c.loop.invariant ready all))
