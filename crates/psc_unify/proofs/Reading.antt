@@ -80,6 +80,11 @@ module _ (s : State) where
         (ap e.result k ∙ result_of s.names e (get_or s.graph.kinds.items left None) result fits is ∙ same);
   }
 
+  pub join_at : (former : Former) (one two : Ty) (left kind result : ℕ) (o : Option ℕ) → former ≡ Apply kind → left < length s.graph.nodes.items → o ≡ get_or s.graph.kinds.items left None → IsResult s.names.kinds.results.items o result → result ≡ kind → IsJoinOf s (ty.App one two) former left one two
+  join_at former one two left kind result o is below at res same =
+      subst (λ f. IsJoinOf s (ty.App one two) f left one two) (sym is)
+      (join_of one two left kind result below (subst (λ x. IsResult s.names.kinds.results.items x result) at res) same)
+
   pub field_of : (name : Label) (one two : Ty) (i : ℕ) → slice_get s.names.labels.rows.items i ≡ Some name → IsFieldOf s (ty.RowCons name one two) i one two
   field_of name one two i row = record {
     value = λ e g fits. tree-RowCons e g name one two ∙ ap (λ x. put x (tree e g one) (tree e g two)) (fits.label i name row);

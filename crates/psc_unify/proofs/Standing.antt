@@ -12,6 +12,7 @@ use Rattle.psc_rows.specs.Steps.{Steps}
 use Rattle.psc_rows.specs.declared.graph.Graph.{Graph}
 use Rattle.psc_type.specs.declared.ty.Ty.{Ty}
 use Rattle.psc_unify.specs.declared.tables.Names.{Names}
+use Rattle.psc_unify.specs.declared.state.State.{State}
 use Rattle.psc_unify.specs.Naming.{Naming}
 use Rattle.psc_unify.specs.Meaning.{tree}
 use Rattle.psc_unify.specs.Solved.{Fits, Continues, Adds, Values, Means, AllEqual, IsSolutionOf, IsMostGeneralOf, Stands, HasNone, ArePlain}
@@ -47,3 +48,21 @@ stands_graph g h names unknowns kinds eqs nodes list s =
 
 pub plain_slice : (s t : List ℕ) (a b : Ty) → t ≡ s → ArePlain s a b → ArePlain t a b
 plain_slice s t a b e h = rw e h
+
+-- a step over a slice of the unknowns
+pub at_slice : (us sl : List ℕ) (a b : Ty) (g h k : Graph) (n m : Names) (kinds : List ℕ) (eqs : List (Ty × Ty)) → sl ≡ us → h.nodes ≡ g.nodes → h.kinds ≡ g.kinds
+    → (ArePlain sl a b → (ks : List ℕ) (es : List (Ty × Ty)) → Stands h n sl ks es → Stands k m sl ks ((a, b) ∷ es))
+    → ArePlain us a b → Stands g n us kinds eqs → Stands k m us kinds ((a, b) ∷ eqs)
+at_slice us sl a b g h k n m kinds eqs is nodes list step plain st =
+    subst (λ (u : List ℕ). Stands k m u kinds ((a, b) ∷ eqs)) is
+    (step (plain_slice us sl a b is plain) kinds eqs (subst (λ (u : List ℕ). Stands h n u kinds eqs) (sym is) (stands_graph g h n us kinds eqs nodes list st)))
+
+pub none_slice : (us sl : List ℕ) (a b : Ty) (g h : Graph) (n m o : Names) (kinds : List ℕ) (eqs : List (Ty × Ty)) → sl ≡ us → h.nodes ≡ g.nodes → h.kinds ≡ g.kinds → o ≡ m
+    → (ArePlain sl a b → (ks : List ℕ) (es : List (Ty × Ty)) → Stands h n sl ks es → HasNone m ks ((a, b) ∷ es))
+    → ArePlain us a b → Stands g n us kinds eqs → HasNone o kinds ((a, b) ∷ eqs)
+none_slice us sl a b g h n m o kinds eqs is nodes list same step plain st =
+    subst (λ (x : Names). HasNone x kinds ((a, b) ∷ eqs)) (sym same)
+    (step (plain_slice us sl a b is plain) kinds eqs (subst (λ (u : List ℕ). Stands h n u kinds eqs) (sym is) (stands_graph g h n us kinds eqs nodes list st)))
+
+pub none_state : (s t : State) (kinds : List ℕ) (eqs : List (Ty × Ty)) → t ≡ s → HasNone s.names kinds eqs → HasNone t.names kinds eqs
+none_state s t kinds eqs is h = subst (λ (x : State). HasNone x.names kinds eqs) (sym is) h

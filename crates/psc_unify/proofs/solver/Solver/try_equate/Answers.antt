@@ -1,7 +1,6 @@
-use Rattle.std.proofs.Common.{◌≡◌, true, false, sym, subst, ◌∙◌}
-use Rattle.psc_unify.specs.declared.state.State.{State}
-use Rattle.psc_unify.specs.Solved.{HasNone}
+use Rattle.std.proofs.Common.{sym, ◌∙◌}
 use Rattle.psc_unify.proofs.Small.{none_some}
+use Rattle.psc_unify.proofs.Standing.{none_state}
 use Rattle.psc_unify.proofs.Promise.{solved_by, other_flag}
 use Rattle.psc_unify.proofs.solver.Solver.try_equate.Goals as goal
 
@@ -13,7 +12,7 @@ returns-in-Solved-clause-solved c = λ e plain kinds eqs h.
 pub returns-in_ok-clash-in-Clashed-clause-clash : goal.returns-in_ok-clash-in-Clashed-clause-clash
 returns-in_ok-clash-in-Clashed-clause-clash c = λ clash e only plain kinds eqs h.
     let is = c.in-Clashed.is in
-    subst (λ (s : State). HasNone s.names kinds _) (sym c.in_ok-clash-in-Clashed.ensures.state) (c.in_ok-ended.ensures.clash cc plain kinds eqs h.stands)
+    none_state _ _ kinds _ c.in_ok-clash-in-Clashed.ensures.state (c.in_ok-ended.ensures.clash cc plain kinds eqs h.stands)
 
 pub returns-in_ok-escape-in-Escaped-clause-clash : goal.returns-in_ok-escape-in-Escaped-clause-clash
 returns-in_ok-escape-in-Escaped-clause-clash c = λ clash e only plain kinds eqs h. absurd (other_flag c.in_ok-escape-in-Escaped.escape clash cc c.in_ok-escape-in-Escaped.ensures.clash only)
