@@ -63,4 +63,4 @@ solved_again s t kinds eqs clash state h =
 
 -- a clash of scopes is no other clash
 pub other_flag : (a b : Clash) → a ≡ b → a.scopes_only ≡ true → b.scopes_only ≡ false → ⊥
-other_flag a b same yes no = let z : true ≡ false = sym yes ∙ ap (λ (x : Clash). x.scopes_only) same ∙ no in cc
+other_flag a b same flag other = let z : true ≡ false = sym flag ∙ ap (λ (x : Clash). x.scopes_only) same ∙ other in cc

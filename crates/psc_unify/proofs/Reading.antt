@@ -115,3 +115,7 @@ module _ (s : State) where
   reads_at nodes t place end is same reads = record {
     value = λ e v fits sol. reads.value e v fits sol ∙ sym (same v (subst (Solves v) (sym is) sol.solves));
   }
+
+  -- a copy of a type reads as the type does
+  pub reads_copy : (t u : Ty) (p : ℕ) → u ≡ t → Reads s t p → Reads s u p
+  reads_copy t u p is reads = subst (λ x. Reads s x p) (sym is) reads

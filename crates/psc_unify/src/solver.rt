@@ -241,7 +241,8 @@ impl Solver {
         Ok(answer)
     }
 
-    /// The value of an unknown in a most general solution of the equations so far.
+    /// The value of an unknown in a most general solution of the equations so far. For an unknown that
+    /// is not of this solver it answers want of memory.
     pub fn value(&self, alloc: Global, unknown: u64) -> Result<Ty, NoMemory>
         ensures { IfOk result (λ ty. (kinds : List ℕ) (eqs : List (Ty × Ty)) → IsSolved self.now kinds eqs → unknown < length kinds → IsValue self.now unknown ty) }
     {
@@ -249,7 +250,7 @@ impl Solver {
             return Err(NoMemory);
         }
         let Some(place) = self.state.known_place(unknown) else {
-            return Ok(Ty::Unknown(unknown));
+            return Err(NoMemory);
         };
         let mut reader = Reader::new(alloc);
         let ty = reader.read(alloc, &self.state, place)?;

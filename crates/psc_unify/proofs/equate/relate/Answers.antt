@@ -14,4 +14,4 @@ returns-in-Clash-clause-clash c = λ e plain kinds eqs st.
     let one = c.in_ok-left.ensures.value c.new-binders.ensures.items plain.left st.ready in
     let two = c.in_ok-right.ensures.value (c.in_ok-left.ensures.restored ∙ c.new-binders.ensures.items) plain.right (c.in_ok-left.ensures.adds.ready st.ready) in
     none_equal _ _ _ _ _ _ _ kinds eqs _ _ _ _ c.in_ok-left.ensures.names c.in_ok-right.ensures.names c.in_ok-left.ensures.adds c.in_ok-right.ensures.adds st one two
-    (λ ready v sol same. let is = c.in-Clash.is in c.in-Err.ensures.clash cc ready v sol same)
+    (λ ready v sol same. let is = c.in-Clash.is in c.in-Err.ensures.clash (cc) ready v sol same)

@@ -5,9 +5,9 @@ use Rattle.psc_unify.proofs.solver.add_equation.Goals as goal
 pub returns-in-Ok-clause-solved : goal.returns-in-Ok-clause-solved
 returns-in-Ok-clause-solved c = λ e plain kinds eqs st.
     let yes = c.if-not-solved.false in
-    at_slice _ _ _ _ _ _ _ _ _ kinds eqs c.as_slice.ensures.value refl refl (c.in_ok-solved.ensures.solved cc) plain st
+    at_slice _ _ _ _ _ _ _ _ _ kinds eqs c.as_slice.ensures.value refl refl (c.in_ok-solved.ensures.solved (cc)) plain st
 
 pub returns-then-not-solved-clause-clash : goal.returns-then-not-solved-clause-clash
 returns-then-not-solved-clause-clash c = λ e plain kinds eqs st.
     let no = c.if-not-solved.true in
-    none_slice _ _ _ _ _ _ _ _ _ kinds eqs c.as_slice.ensures.value refl refl c.take_back.ensures (c.in_ok-solved.ensures.clash cc) plain st
+    none_slice _ _ _ _ _ _ _ _ _ kinds eqs c.as_slice.ensures.value refl refl c.take_back.ensures (c.in_ok-solved.ensures.clash (cc)) plain st
