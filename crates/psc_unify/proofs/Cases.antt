@@ -25,9 +25,6 @@ both true true h = (refl, refl)
 both true false h = absurd cc
 both false y h = absurd cc
 
-pub bound_nowhere : (n : ℕ) (t s : Ty) → t ≡ s → is_plain n s ≡ false → IsTrue (is_plain n t) → ⊥
-bound_nowhere n t s is no yes = let w : true ≡ false = sym yes ∙ ap (is_plain n) is ∙ no in cc
-
 module _ (names : Names) (nodes : List Node) (unknowns : List ℕ) (t : Ty) (p : ℕ) where
   pub var_case : (x : Ident) → t ≡ ty.Var x → ((i k : ℕ) × (slice_get names.rigids.rows.items i ≡ Some (x, k)) × (slice_get nodes p ≡ Some (Atom (leaf.Rigid i k)))) → Means names nodes unknowns t p
   var_case x is h = subst (λ s. Means names nodes unknowns s p) (sym is) (means_rigid names nodes unknowns x p h.0 h.1 h.2 h.3)

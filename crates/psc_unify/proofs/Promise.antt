@@ -1,15 +1,17 @@
 -- A solver whose state stands at the equations is at a most general solution of them.
-use Rattle.std.proofs.Common.{◌≡◌, ℕ, ◌<◌, List, Option, None, Some, slice_get, get_or, length, sym, ap, refl, ◌∙◌, subst, arith}
+use Rattle.std.proofs.Common.{◌≡◌, ℕ, ◌<◌, List, Option, None, Some, slice_get, get_or, length, sym, ap, refl, ◌∙◌, subst, true, false, arith}
 use Rattle.std.proofs.lemmas.Option.{slice_get_within, slice_get-get_or}
 use Rattle.psc_graph.specs.Tree.{Tree}
 use Rattle.psc_graph.specs.General.{kind_of}
 use Rattle.psc_type.specs.declared.ty.Ty.{Ty}
 use Rattle.psc_unify.specs.declared.state.State.{State}
 use Rattle.psc_unify.specs.declared.solver.Solver.{Solver}
+use Rattle.psc_unify.specs.declared.solver.Clash.{Clash}
 use Rattle.psc_unify.specs.Naming.{Naming}
 use Rattle.psc_unify.specs.Meaning.{tree}
 use Rattle.psc_unify.specs.Reading.{place_or, place_of, valued, Reads}
 use Rattle.psc_unify.specs.Solved.{Stands, Fits, Values, IsSolutionOf}
+use Rattle.psc_unify.proofs.Small.{lt_same}
 use Rattle.psc_unify.specs.Promise.{IsSolved, IsOwn, IsValue}
 use Rattle.psc_unify.proofs.Solving.{values_of, most_general}
 
@@ -19,7 +21,7 @@ values_own unknowns v g same = record { at = λ x k e. same x ∙ ap (λ o. v (p
 own_solution : (s : Solver) (kinds : List ℕ) (eqs : List (Ty × Ty)) (st : Stands s.state.graph s.state.names s.state.unknowns.items kinds eqs) (e : Naming) → Fits e s.state.names → (g : ℕ → Tree) → IsOwn s g → IsSolutionOf e kinds eqs g
 own_solution s kinds eqs st e fits g own = record {
   kind = λ x k h.
-      let below : x < length s.state.unknowns.items = (let lt = slice_get_within kinds x k h in let c = st.count in omega arith) in
+      let below : x < length s.state.unknowns.items = lt_same x (length kinds) (length s.state.unknowns.items) (slice_get_within kinds x k h) st.count in
       let p = get_or s.state.unknowns.items x 0 in
       let at : slice_get s.state.unknowns.items x ≡ Some p = slice_get-get_or s.state.unknowns.items x 0 below in
       ap kind_of (own.same x ∙ ap (λ o. own.nodes (place_or x o)) at) ∙ st.kind x p k at h own.nodes own.solves;
@@ -32,7 +34,7 @@ goes_on s kinds eqs st e fits g sol =
     ( valued s.state.unknowns.items w.0
     , record { nodes = w.0; solves = w.1; same = λ n. refl }
     , λ x k h.
-        let below : x < length s.state.unknowns.items = (let lt = slice_get_within kinds x k h in let c = st.count in omega arith) in
+        let below : x < length s.state.unknowns.items = lt_same x (length kinds) (length s.state.unknowns.items) (slice_get_within kinds x k h) st.count in
         let p = get_or s.state.unknowns.items x 0 in
         let at : slice_get s.state.unknowns.items x ≡ Some p = slice_get-get_or s.state.unknowns.items x 0 below in
         ap (λ o. w.0 (place_or x o)) at ∙ sym (w.2.at x p at) )
@@ -58,3 +60,7 @@ pub solved_again : (s t : Solver) (kinds : List ℕ) (eqs : List (Ty × Ty)) →
 solved_again s t kinds eqs clash state h =
     solved_by t kinds eqs (clash ∙ h.running)
     (subst (λ (x : State). Stands x.graph x.names x.unknowns.items kinds eqs) (sym state) h.stands)
+
+-- a clash of scopes is no other clash
+pub other_flag : (a b : Clash) → a ≡ b → a.scopes_only ≡ true → b.scopes_only ≡ false → ⊥
+other_flag a b same flag other = let z : true ≡ false = sym flag ∙ ap (λ (x : Clash). x.scopes_only) same ∙ other in cc

@@ -1,5 +1,5 @@
 -- A type that is read from the graph has the values of the graph.
-use Rattle.std.proofs.Common.{◌≡◌, ℕ, ◌<◌, zero, suc, List, Bool, true, false, cond, length, Option, Some, None, slice_get, get_or, ap, refl, sym, ◌∙◌, ◌⊎◌, inl, inr, eqb, arith}
+use Rattle.std.proofs.Common.{◌≡◌, ℕ, ◌<◌, zero, suc, List, Bool, true, false, cond, length, Option, Some, None, slice_get, get_or, ap, refl, sym, subst, ◌∙◌, ◌⊎◌, inl, inr, eqb, arith}
 use Rattle.std.proofs.lemmas.Bool.Decides.{eqb_tells}
 use Rattle.std.specs.Ordering.{nat_cmp, is_eq}
 use Rattle.std.specs.declared.cmp.Ordering.TheVariants.{Less, Greater}
@@ -9,6 +9,8 @@ use Rattle.psc_text.specs.declared.names.Label.{Label}
 use Rattle.psc_text.specs.declared.names.Ident.{Ident}
 use Rattle.psc_graph.specs.Tree.{Tree, TAtom, TJoin, put}
 use Rattle.psc_graph.specs.General.{kind_of}
+use Rattle.psc_graph.specs.Model.{Solves}
+use Rattle.psc_graph.specs.declared.node.Node.{Node}
 use Rattle.psc_graph.specs.declared.node.Node.TheVariants.{Atom, Join, Field}
 use Rattle.psc_graph.specs.declared.node.Leaf.{Leaf}
 use Rattle.psc_graph.specs.declared.node.Leaf.TheVariants as leaf
@@ -38,6 +40,10 @@ not_at k q ne = elim (less_or_more k q ne) [
   | inl lt ↦ rw (← nat_cmp_is k q Less lt) refl
   | inr gt ↦ rw (← nat_cmp_is k q Greater gt) refl
 ]
+
+-- a node that was looked up in a slice of the list
+pub looked : (xs ys : List Node) (k : ℕ) (n m : Node) → Some n ≡ slice_get xs k → xs ≡ ys → n ≡ m → slice_get ys k ≡ Some m
+looked xs ys k n m at is same = rw (← is, ← same) (sym at)
 
 module _ (s : State) where
   pub reads_leaf : (t : Ty) (p : ℕ) (l : Leaf) → slice_get s.graph.nodes.items p ≡ Some (Atom l) → IsLeafOf s t l → Reads s t p
@@ -74,6 +80,11 @@ module _ (s : State) where
         (ap e.result k ∙ result_of s.names e (get_or s.graph.kinds.items left None) result fits is ∙ same);
   }
 
+  pub join_at : (former : Former) (one two : Ty) (left kind result : ℕ) (o : Option ℕ) → former ≡ Apply kind → left < length s.graph.nodes.items → o ≡ get_or s.graph.kinds.items left None → IsResult s.names.kinds.results.items o result → result ≡ kind → IsJoinOf s (ty.App one two) former left one two
+  join_at former one two left kind result o is below at res same =
+      subst (λ f. IsJoinOf s (ty.App one two) f left one two) (sym is)
+      (join_of one two left kind result below (subst (λ x. IsResult s.names.kinds.results.items x result) at res) same)
+
   pub field_of : (name : Label) (one two : Ty) (i : ℕ) → slice_get s.names.labels.rows.items i ≡ Some name → IsFieldOf s (ty.RowCons name one two) i one two
   field_of name one two i row = record {
     value = λ e g fits. tree-RowCons e g name one two ∙ ap (λ x. put x (tree e g one) (tree e g two)) (fits.label i name row);
@@ -98,3 +109,13 @@ module _ (s : State) where
       | inr h ↦ all.each q x (sym (u.2 q (not_at p q h.1)) ∙ e)
     ];
   }
+
+  -- at the other end of links
+  pub reads_at : (nodes : List Node) (t : Ty) (place end : ℕ) → nodes ≡ s.graph.nodes.items → ((v : ℕ → Tree) → Solves v nodes → v place ≡ v end) → Reads s t end → Reads s t place
+  reads_at nodes t place end is same reads = record {
+    value = λ e v fits sol. reads.value e v fits sol ∙ sym (same v (subst (Solves v) (sym is) sol.solves));
+  }
+
+  -- a copy of a type reads as the type does
+  pub reads_copy : (t u : Ty) (p : ℕ) → u ≡ t → Reads s t p → Reads s u p
+  reads_copy t u p is reads = subst (λ x. Reads s x p) (sym is) reads

@@ -30,8 +30,10 @@ pub fn relate(
     let right = add_type(graph, names, unknowns, &mut binders, b)?;
     match make_equal(alloc, graph, left, right) {
         Ok(()) => Ok(true),
-        Err(Stop::Clash) => Ok(false),
-        Err(Stop::Memory) => Err(NoMemory),
+        Err(stop) => match stop {
+            Stop::Clash => Ok(false),
+            Stop::Memory => Err(NoMemory),
+        },
     }
 }
 

@@ -1,7 +1,8 @@
 // Types read back from the graph. What is shared in the graph is shared in the type. Values have no
 // binders, so the refusals of nodes that stand under binders alone never come.
-ghost use Rattle.std.specs.Prelude.{◌≡◌, ℕ, OnOk, IfOk};
+ghost use Rattle.std.specs.Prelude.{◌≡◌, ◌<◌, length, OnOk, IfOk, slice_get, Some, true};
 ghost use Rattle.psc_graph.specs.General.{IsReady};
+ghost use Rattle.psc_type.specs.declared.ty.Ty.{Ty};
 ghost use Rattle.psc_unify.specs.declared.state.State.{State};
 ghost use Rattle.psc_unify.specs.Reading.{Reads, AllRead, IsLeafOf, IsJoinOf, IsFieldOf};
 
@@ -73,12 +74,33 @@ fn read_leaf(state: &State, leaf: Leaf) -> Result<Ty, NoMemory>
     }
 }
 
+/// The node that a place's links lead to, with its place.
+fn end_of(state: &State, at: usize) -> Result<(usize, Node), NoMemory>
+    ensures node { IfOk result (λ r. slice_get state.now.graph.nodes.items r.0 ≡ Some r.1) }
+    ensures same { IfOk result (λ r. (ty : Ty) → Reads state.now ty r.0 → Reads state.now ty at) }
+{
+    match find(state.graph.nodes.as_slice(), at) {
+        Ok(end) => Ok(end),
+        Err(stop) => Err(no_memory(stop)),
+    }
+}
+
 fn read_unknown(state: &State, place: usize) -> Result<Ty, NoMemory>
     ensures { IfOk result (λ ty. Reads state.now ty place) }
 {
     match state.number_at(place) {
         Some(number) => Ok(Ty::Unknown(number)),
         None => Err(NoMemory),
+    }
+}
+
+/// Whether the place is one of a node.
+fn is_node(state: &State, at: usize) -> bool
+    ensures { result ≡ true → at < length state.now.graph.nodes.items }
+{
+    match node_at(state.graph.nodes.as_slice(), at) {
+        Some(_) => true,
+        None => false,
     }
 }
 
@@ -95,7 +117,7 @@ fn read_join(
     let Former::Apply(kind) = former else {
         return Err(NoMemory);
     };
-    if left >= state.graph.nodes.len() {
+    if !is_node(state, left) {
         return Err(NoMemory);
     }
     match state.names.kinds.result(kind_at(&state.graph, left)) {
@@ -138,9 +160,12 @@ impl Reader {
     fn part(&self, state: &State, at: usize) -> Result<Shared<Ty>, NoMemory>
         ensures { IfOk result (λ ty. AllRead state.now self.now → Reads state.now ty at) }
     {
-        let (end, _) = find(state.graph.nodes.as_slice(), at).map_err(no_memory)?;
+        let (end, _) = end_of(state, at)?;
         match self.done.get(&end) {
-            Some(ty) => Ok(ty.clone()?),
+            Some(ty) => {
+                let copy = ty.clone()?;
+                Ok(copy)
+            }
             None => Err(NoMemory),
         }
     }
@@ -154,19 +179,21 @@ impl Reader {
     ) -> Result<(), NoMemory>
         ensures { OnOk result (AllRead state.now self.old → AllRead state.now self.new) }
     {
-        let (end, node) = find(state.graph.nodes.as_slice(), at).map_err(no_memory)?;
+        let (end, node) = end_of(state, at)?;
         if self.done.contains_key(&end) {
             return Ok(());
         }
         match node {
             Node::Free(_) => {
                 let ty = read_unknown(state, end)?;
-                self.keep(alloc, end, ty)
+                self.keep(alloc, end, ty)?;
+                Ok(())
             }
             Node::Link(_) => Err(NoMemory),
             Node::Atom(leaf) => {
-                let ty = read_leaf(state, leaf)?;
-                self.keep(alloc, end, ty)
+                let atom = read_leaf(state, leaf)?;
+                self.keep(alloc, end, atom)?;
+                Ok(())
             }
             Node::Join(_, left, right) | Node::Field(_, left, right) => {
                 work.push(Visit::Leave(end))?;
@@ -181,20 +208,25 @@ impl Reader {
     fn leave(&mut self, alloc: Global, state: &State, at: usize) -> Result<(), NoMemory>
         ensures { OnOk result (IsReady state.now.graph.nodes.items state.now.graph.kinds.items → AllRead state.now self.old → AllRead state.now self.new) }
     {
-        match node_at(state.graph.nodes.as_slice(), at) {
-            Some(Node::Field(label, left, right)) => {
+        let Some(node) = node_at(state.graph.nodes.as_slice(), at) else {
+            return Err(NoMemory);
+        };
+        match node {
+            Node::Field(label, left, right) => {
                 let one = self.part(state, left)?;
                 let two = self.part(state, right)?;
-                let ty = read_field(state, label, one, two)?;
-                self.keep(alloc, at, ty)
+                let row = read_field(state, label, one, two)?;
+                self.keep(alloc, at, row)?;
+                Ok(())
             }
-            Some(Node::Join(former, left, right)) => {
-                let one = self.part(state, left)?;
-                let two = self.part(state, right)?;
-                let ty = read_join(state, former, left, one, two)?;
-                self.keep(alloc, at, ty)
+            Node::Join(former, left, right) => {
+                let head = self.part(state, left)?;
+                let argument = self.part(state, right)?;
+                let application = read_join(state, former, left, head, argument)?;
+                self.keep(alloc, at, application)?;
+                Ok(())
             }
-            _ => Err(NoMemory),
+            Node::Free(_) | Node::Link(_) | Node::Atom(_) => Err(NoMemory),
         }
     }
 
@@ -208,8 +240,14 @@ impl Reader {
         ensures { OnOk result (IsReady state.now.graph.nodes.items state.now.graph.kinds.items → AllRead state.now self.old → AllRead state.now self.new) }
     {
         match visit {
-            Visit::Enter(place) => self.enter(alloc, state, work, place),
-            Visit::Leave(place) => self.leave(alloc, state, place),
+            Visit::Enter(place) => {
+                self.enter(alloc, state, work, place)?;
+                Ok(())
+            }
+            Visit::Leave(place) => {
+                self.leave(alloc, state, place)?;
+                Ok(())
+            }
         }
     }
 
@@ -222,7 +260,8 @@ impl Reader {
         for _ in 0..u64::MAX {
             let Some(visit) = work.pop() else {
                 let ty = self.part(state, at)?;
-                return Ok(ty.get().clone()?);
+                let copy = ty.get().clone()?;
+                return Ok(copy);
             };
             self.visit(alloc, state, &mut work, visit)?;
         }

@@ -209,7 +209,8 @@ impl Solver {
         ensures clash { (clash : Clash) → result ≡ Ok (Err clash) → clash.scopes_only ≡ false → ArePlainIn self.old a.now b.now → (kinds : List ℕ) (eqs : List (Ty × Ty)) → IsSolved self.old kinds eqs → IsUnsolvable self.new kinds ((a.now, b.now) ∷ eqs) }
     {
         if let Some(clash) = &self.clash {
-            return Ok(Err(copy_clash(clash)?));
+            let copy = copy_clash(clash)?;
+            return Ok(Err(copy));
         }
         let ended = add_equation(alloc, &mut self.state, a, b)?;
         match ended {
@@ -219,8 +220,8 @@ impl Solver {
                 Ok(Err(clash))
             }
             Ended::Escaped => {
-                let clash = self.refuse(alloc, a, b, true)?;
-                Ok(Err(clash))
+                let escape = self.refuse(alloc, a, b, true)?;
+                Ok(Err(escape))
             }
         }
     }
@@ -240,7 +241,8 @@ impl Solver {
         Ok(answer)
     }
 
-    /// The value of an unknown in a most general solution of the equations so far.
+    /// The value of an unknown in a most general solution of the equations so far. For an unknown that
+    /// is not of this solver it answers want of memory.
     pub fn value(&self, alloc: Global, unknown: u64) -> Result<Ty, NoMemory>
         ensures { IfOk result (λ ty. (kinds : List ℕ) (eqs : List (Ty × Ty)) → IsSolved self.now kinds eqs → unknown < length kinds → IsValue self.now unknown ty) }
     {
@@ -248,7 +250,7 @@ impl Solver {
             return Err(NoMemory);
         }
         let Some(place) = self.state.known_place(unknown) else {
-            return Ok(Ty::Unknown(unknown));
+            return Err(NoMemory);
         };
         let mut reader = Reader::new(alloc);
         let ty = reader.read(alloc, &self.state, place)?;

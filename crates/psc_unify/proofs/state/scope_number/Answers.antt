@@ -5,4 +5,4 @@ pub loop-name-init : goal.loop-name-init
 loop-name-init c = continues_none _
 
 pub loop-name-preserved : goal.loop-name-preserved
-loop-name-preserved c = continues_more _ _ _ c.loop-name.invariant c.in_ok-rigid.ensures.kept
+loop-name-preserved c = continues_more _ _ _ c.loop-name.invariant c.in_ok-number.ensures.kept

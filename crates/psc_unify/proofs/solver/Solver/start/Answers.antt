@@ -1,5 +1,5 @@
 use Rattle.std.proofs.Common.{refl, []}
-use Rattle.psc_unify.proofs.Solving.{stands_named}
+use Rattle.psc_unify.proofs.Standing.{stands_named}
 use Rattle.psc_unify.proofs.Promise.{solved_by}
 use Rattle.psc_unify.proofs.solver.Solver.start.Goals as goal
 

@@ -1,4 +1,4 @@
-use Rattle.psc_unify.proofs.Solving.{stands_none}
+use Rattle.psc_unify.proofs.Starting.{stands_none}
 use Rattle.psc_unify.proofs.state.State.new.Goals as goal
 
 pub returns : goal.returns

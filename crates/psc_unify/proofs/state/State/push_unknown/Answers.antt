@@ -1,4 +1,4 @@
-use Rattle.psc_unify.proofs.Solving.{stands_fresh}
+use Rattle.psc_unify.proofs.Asking.{stands_fresh}
 use Rattle.psc_unify.proofs.state.State.push_unknown.Goals as goal
 
 pub returns-clause-stands : goal.returns-clause-stands
