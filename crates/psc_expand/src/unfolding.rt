@@ -1,6 +1,8 @@
 //! Synonyms in an order in which each stands behind those that it uses.
 
-ghost use Rattle.std.specs.Prelude.{◌≡◌, IfOk};
+ghost use Rattle.std.specs.Prelude.{◌≡◌, IfOk, OnOk};
+ghost use Rattle.psc_groups.specs.Graph.{AllDeclared};
+ghost use Rattle.psc_groups.specs.Groups.{AllBelow};
 ghost use Rattle.psc_expand.specs.Expand.{expand_over};
 
 use crate::expanding::expand_over;
@@ -87,41 +89,71 @@ fn places_of(alloc: Global, rows: &[Synonym]) -> Result<BTreeMap<Qualified, u32>
     Ok(places)
 }
 
+/// For each row the places of those that its body mentions.
 fn mentions_of(
     alloc: Global,
     rows: &[Synonym],
     places: &BTreeMap<Qualified, u32>,
-) -> Result<Vec<Vec<u32>>, NoMemory> {
+) -> Result<Vec<Vec<u32>>, NoMemory>
+    ensures { IfOk result (λ mentions. AllDeclared mentions.items) }
+{
     let mut mentions = Vec::new(alloc);
     for row in rows {
-        let mut list = Vec::new(alloc);
-        add_mentions(&row.body, places, &mut list)?;
-        mentions.push(list)?;
+        mentions.push(mentions_in(alloc, &row.body, places, rows.len())?)?;
     }
     Ok(mentions)
+}
+
+/// The places below an end that the type mentions.
+fn mentions_in(
+    alloc: Global,
+    ty: &Ty,
+    places: &BTreeMap<Qualified, u32>,
+    end: usize,
+) -> Result<Vec<u32>, NoMemory>
+    ensures { IfOk result (λ list. AllBelow list.items end) }
+{
+    let mut list = Vec::new(alloc);
+    add_mentions(ty, places, end, &mut list)?;
+    Ok(list)
+}
+
+/// Notes a place. Each is below the number of rows.
+fn add_place(place: u32, end: usize, list: &mut Vec<u32>) -> Result<(), NoMemory>
+    requires { AllBelow list.old.items end }
+    ensures { OnOk result (AllBelow list.new.items end) }
+{
+    if (place as usize) < end {
+        list.push(place)?;
+    }
+    Ok(())
 }
 
 #[cycle(mentions)]
 fn add_mentions(
     ty: &Ty,
     places: &BTreeMap<Qualified, u32>,
+    end: usize,
     list: &mut Vec<u32>,
-) -> Result<(), NoMemory> {
+) -> Result<(), NoMemory>
+    requires { AllBelow list.old.items end }
+    ensures { OnOk result (AllBelow list.new.items end) }
+{
     match ty {
         Ty::Con(name) => {
             if let Some(place) = places.get(name) {
-                list.push(*place)?;
+                add_place(*place, end, list)?;
             }
             Ok(())
         }
         Ty::App(left, right) | Ty::RowCons(_, left, right) => {
-            add_mentions(left.get(), places, list)?;
-            add_mentions(right.get(), places, list)
+            add_mentions(left.get(), places, end, list)?;
+            add_mentions(right.get(), places, end, list)
         }
-        Ty::Forall(_, _, body) => add_mentions(body.get(), places, list),
+        Ty::Forall(_, _, body) => add_mentions(body.get(), places, end, list),
         Ty::Given(given, body) => {
-            add_mentions_of_all(given, places, list)?;
-            add_mentions(body.get(), places, list)
+            add_mentions_of_all(given, places, end, list)?;
+            add_mentions(body.get(), places, end, list)
         }
         Ty::Var(_) | Ty::Unknown(_) | Ty::RowNil | Ty::Symbol(_) | Ty::Any(_) => Ok(()),
     }
@@ -131,10 +163,14 @@ fn add_mentions(
 fn add_mentions_of_all(
     given: &Constraint,
     places: &BTreeMap<Qualified, u32>,
+    end: usize,
     list: &mut Vec<u32>,
-) -> Result<(), NoMemory> {
+) -> Result<(), NoMemory>
+    requires { AllBelow list.old.items end }
+    ensures { OnOk result (AllBelow list.new.items end) }
+{
     for arg in given.args.as_slice() {
-        add_mentions(arg, places, list)?;
+        add_mentions(arg, places, end, list)?;
     }
     Ok(())
 }

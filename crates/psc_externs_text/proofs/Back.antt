@@ -280,11 +280,11 @@ level_constraint class ts h =
     let rest = concatenated (map words args) in (
       omega (arith, length-append (apps (map words args) ++ con) rest, length-append (apps (map words args)) con, length-apps args, length-types ts p.1),
       spells-as (apps (map words args) ++ con ++ rest) (λ st. option_and_then (λ s. option_and_then (app_all args) (makes_type (ty.Con class) s)) (Some (onto args st))) (makes_type (applied (ty.Con class) args))
-      (spells-append (apps (map words args) ++ con) rest (λ s. option_and_then (app_all args) (makes_type (ty.Con class) s)) (λ st. Some (onto args st))
-      (spells-append (apps (map words args)) con (app_all args) (makes_type (ty.Con class)) (spells-apps args)
-      (one_word (codes "con ") (qualified_text class) (ty.Con class) (λ st. con-step class st p.0)))
-      (spells-types ts p.1))
-      (app_all-onto (ty.Con class) args),
+          (spells-append (apps (map words args) ++ con) rest (λ s. option_and_then (app_all args) (makes_type (ty.Con class) s)) (λ st. Some (onto args st))
+          (spells-append (apps (map words args)) con (app_all args) (makes_type (ty.Con class)) (spells-apps args)
+          (one_word (codes "con ") (qualified_text class) (ty.Con class) (λ st. con-step class st p.0)))
+          (spells-types ts p.1))
+          (app_all-onto (ty.Con class) args),
     )
 
 pub type_back : (t : Ty) → is_written t ≡ true → (length (words t) ≡ size t) × Spells (words t) (makes_type t)

@@ -123,7 +123,6 @@ before_rest k d (member l e found) ms h a =
 
 -- ---- the JSON of laid data is those data
 
-
 mutual
   back : (n : ℕ) (d : Data) → IsLaid n d → of_json (outline d) ≡ Some d
   back n null h = refl
@@ -197,7 +196,7 @@ read_laid n d h deep =
     let j = outline d in
     ap read (sym (print-outline d))
     ∙ ap (λ ts. option_and_then of_json (option_and_then (λ p. json.if_last p.0 p.1) (json.value max_depth ts)))
-      (tokens-print (tree.json_tokens j) (ArePrintable-json_tokens j (numbers n d h)) ∙ sym (append-nil _))
+    (tokens-print (tree.json_tokens j) (ArePrintable-json_tokens j (numbers n d h)) ∙ sym (append-nil _))
     ∙ ap (λ o. option_and_then of_json (option_and_then (λ p. json.if_last p.0 p.1) o)) (value-json_tokens j max_depth [] (omega (arith, shallow n d h)))
     ∙ back n d h
 

@@ -1,6 +1,7 @@
 pub mod Appended
 pub mod Back
 pub mod ClassRules
+pub mod Cuts
 pub mod Laid
 pub mod Lists
 pub mod Pops

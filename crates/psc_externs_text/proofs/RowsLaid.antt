@@ -130,11 +130,23 @@ class_laid n r h =
     let c = and_parts (keeps_name r.name) _ b.1 in
     let d = and_parts (list_all keeps_param r.params) (list_all keeps_constraint r.supers) c.1 in (
       refl,
-      (key (codes "deps") refl, laid_list dependency keeps_dependency (suc (suc n)) (dependency_laid n) r.deps a.0,
-       (key (codes "members") refl, laid_list string keeps_name (suc (suc n)) (name (suc (suc n))) r.members b.0,
-        (key (codes "name") refl, name_utf8 r.name c.0,
-         (key (codes "params") refl, laid_list param keeps_param (suc (suc n)) (param_laid n) r.params d.0,
-          (key (codes "supers") refl, laid_list constraint keeps_constraint (suc (suc n)) (constraint_laid (suc n)) r.supers d.1, tt))))),
+      (
+        key (codes "deps") refl,
+        laid_list dependency keeps_dependency (suc (suc n)) (dependency_laid n) r.deps a.0,
+        (
+          key (codes "members") refl,
+          laid_list string keeps_name (suc (suc n)) (name (suc (suc n))) r.members b.0,
+          (
+            key (codes "name") refl,
+            name_utf8 r.name c.0,
+            (
+              key (codes "params") refl,
+              laid_list param keeps_param (suc (suc n)) (param_laid n) r.params d.0,
+              (key (codes "supers") refl, laid_list constraint keeps_constraint (suc (suc n)) (constraint_laid (suc n)) r.supers d.1, tt),
+            ),
+          ),
+        ),
+      ),
     )
 
 constructor_laid : (n : ℕ) (r : ConstructorRow) → keeps_constructor r ≡ true → IsLaid (suc (suc (suc (suc n)))) (constructor_row r)
@@ -155,10 +167,19 @@ fixity_laid n r h =
     let a = and_parts (keeps_op r.op) _ h in
     let b = and_parts (keeps_byte r.precedence) (keeps_true_name r.target) a.1 in (
       refl,
-      (key (codes "assoc") refl, assoc_laid n r.assoc,
-       (key (codes "op") refl, IsUtf8-from_is_utf8 r.op.0 a.0,
-        (key (codes "precedence") refl, byte_laid n r.precedence b.0,
-         (key (codes "space") refl, op_space_laid n r.space, (key (codes "target") refl, true_name_laid n r.target b.1, tt))))),
+      (
+        key (codes "assoc") refl,
+        assoc_laid n r.assoc,
+        (
+          key (codes "op") refl,
+          IsUtf8-from_is_utf8 r.op.0 a.0,
+          (
+            key (codes "precedence") refl,
+            byte_laid n r.precedence b.0,
+            (key (codes "space") refl, op_space_laid n r.space, (key (codes "target") refl, true_name_laid n r.target b.1, tt)),
+          ),
+        ),
+      ),
     )
 
 instance_laid : (n : ℕ) (r : InstanceRow) → keeps_instance r ≡ true → IsLaid (suc (suc (suc (suc n)))) (instance_row r)
@@ -170,12 +191,27 @@ instance_laid n r h =
     let e = and_parts (keeps_count r.index) _ d.1 in
     let f = and_parts (keeps_name r.name) (list_all keeps_name r.vars) e.1 in (
       refl,
-      (key (codes "chain") refl, name_utf8 r.chain a.0,
-       (key (codes "class") refl, true_name_laid n r.class b.0,
-        (key (codes "context") refl, laid_list constraint keeps_constraint (suc (suc n)) (constraint_laid (suc n)) r.context c.0,
-         (key (codes "head") refl, laid_list type_of keeps_type (suc (suc n)) (type_laid (suc n)) r.head d.0,
-          (key (codes "index") refl, count_laid n r.index e.0,
-           (key (codes "name") refl, name_utf8 r.name f.0, (key (codes "vars") refl, laid_list string keeps_name (suc (suc n)) (name (suc (suc n))) r.vars f.1, tt))))))),
+      (
+        key (codes "chain") refl,
+        name_utf8 r.chain a.0,
+        (
+          key (codes "class") refl,
+          true_name_laid n r.class b.0,
+          (
+            key (codes "context") refl,
+            laid_list constraint keeps_constraint (suc (suc n)) (constraint_laid (suc n)) r.context c.0,
+            (
+              key (codes "head") refl,
+              laid_list type_of keeps_type (suc (suc n)) (type_laid (suc n)) r.head d.0,
+              (
+                key (codes "index") refl,
+                count_laid n r.index e.0,
+                (key (codes "name") refl, name_utf8 r.name f.0, (key (codes "vars") refl, laid_list string keeps_name (suc (suc n)) (name (suc (suc n))) r.vars f.1, tt)),
+              ),
+            ),
+          ),
+        ),
+      ),
     )
 
 synonym_laid : (n : ℕ) (r : SynonymRow) → keeps_synonym r ≡ true → IsLaid (suc (suc (suc (suc n)))) (synonym_row r)
@@ -183,8 +219,11 @@ synonym_laid n r h =
     let a = and_parts (keeps_type r.body) _ h in
     let b = and_parts (keeps_name r.name) (list_all keeps_param r.params) a.1 in (
       refl,
-      (key (codes "body") refl, type_laid (suc (suc n)) r.body a.0,
-       (key (codes "name") refl, name_utf8 r.name b.0, (key (codes "params") refl, laid_list param keeps_param (suc (suc n)) (param_laid n) r.params b.1, tt))),
+      (
+        key (codes "body") refl,
+        type_laid (suc (suc n)) r.body a.0,
+        (key (codes "name") refl, name_utf8 r.name b.0, (key (codes "params") refl, laid_list param keeps_param (suc (suc n)) (param_laid n) r.params b.1, tt)),
+      ),
     )
 
 type_row_laid : (n : ℕ) (r : TypeRow) → keeps_type_row r ≡ true → IsLaid (suc (suc (suc (suc n)))) (type_row r)
@@ -192,8 +231,11 @@ type_row_laid n r h =
     let a = and_parts (list_all keeps_name r.constructors) _ h in
     let b = and_parts (keeps_kind r.kind) (keeps_name r.name) a.1 in (
       refl,
-      (key (codes "constructors") refl, laid_list string keeps_name (suc (suc n)) (name (suc (suc n))) r.constructors a.0,
-       (key (codes "kind") refl, kind_laid (suc (suc n)) r.kind b.0, (key (codes "name") refl, name_utf8 r.name b.1, (key (codes "newtype") refl, tt, tt)))),
+      (
+        key (codes "constructors") refl,
+        laid_list string keeps_name (suc (suc n)) (name (suc (suc n))) r.constructors a.0,
+        (key (codes "kind") refl, kind_laid (suc (suc n)) r.kind b.0, (key (codes "name") refl, name_utf8 r.name b.1, (key (codes "newtype") refl, tt, tt))),
+      ),
     )
 
 value_laid : (n : ℕ) (r : ValueRow) → keeps_value r ≡ true → IsLaid (suc (suc (suc (suc n)))) (value_row r)
@@ -218,8 +260,11 @@ use_laid n r h =
     let a = and_parts (keeps_module r.«module») _ h in
     let b = and_parts (keeps_entity r.entity) (keeps_span r.span) a.1 in (
       refl,
-      (key (codes "module") refl, module_utf8 r.«module» a.0,
-       (key (codes "name") refl, entity_laid n r.entity b.0, (key (codes "space") refl, space_laid n (space_of r.entity), (key (codes "span") refl, span_laid n r.span b.1, tt)))),
+      (
+        key (codes "module") refl,
+        module_utf8 r.«module» a.0,
+        (key (codes "name") refl, entity_laid n r.entity b.0, (key (codes "space") refl, space_laid n (space_of r.entity), (key (codes "span") refl, span_laid n r.span b.1, tt))),
+      ),
     )
 
 -- ---- whole files
@@ -237,16 +282,43 @@ externs_laid n x h =
     let i = and_parts (list_all keeps_synonym x.synonyms) _ g.1 in
     let j = and_parts (list_all keeps_type_row x.types) (list_all keeps_value x.values) i.1 in (
       refl,
-      (key (codes "classes") refl, laid_list class_row keeps_class m (class_laid n) x.classes a.0,
-       (key (codes "constructors") refl, laid_list constructor_row keeps_constructor m (constructor_laid n) x.constructors b.0,
-        (key (codes "exports") refl, laid_list export_row keeps_export m (export_laid n) x.exports c.0,
-         (key (codes "fixities") refl, laid_list fixity_row keeps_fixity m (fixity_laid n) x.fixities d.0,
-          (key (codes "imports") refl, laid_list string keeps_module m (module_name m) x.imports e.0,
-           (key (codes "instances") refl, laid_list instance_row keeps_instance m (instance_laid n) x.instances f.0,
-            (key (codes "module") refl, module_utf8 x.«module» g.0,
-             (key (codes "synonyms") refl, laid_list synonym_row keeps_synonym m (synonym_laid n) x.synonyms i.0,
-              (key (codes "types") refl, laid_list type_row keeps_type_row m (type_row_laid n) x.types j.0,
-               (key (codes "values") refl, laid_list value_row keeps_value m (value_laid n) x.values j.1, (key (codes "version") refl, count_laid n 1 refl, tt))))))))))),
+      (
+        key (codes "classes") refl,
+        laid_list class_row keeps_class m (class_laid n) x.classes a.0,
+        (
+          key (codes "constructors") refl,
+          laid_list constructor_row keeps_constructor m (constructor_laid n) x.constructors b.0,
+          (
+            key (codes "exports") refl,
+            laid_list export_row keeps_export m (export_laid n) x.exports c.0,
+            (
+              key (codes "fixities") refl,
+              laid_list fixity_row keeps_fixity m (fixity_laid n) x.fixities d.0,
+              (
+                key (codes "imports") refl,
+                laid_list string keeps_module m (module_name m) x.imports e.0,
+                (
+                  key (codes "instances") refl,
+                  laid_list instance_row keeps_instance m (instance_laid n) x.instances f.0,
+                  (
+                    key (codes "module") refl,
+                    module_utf8 x.«module» g.0,
+                    (
+                      key (codes "synonyms") refl,
+                      laid_list synonym_row keeps_synonym m (synonym_laid n) x.synonyms i.0,
+                      (
+                        key (codes "types") refl,
+                        laid_list type_row keeps_type_row m (type_row_laid n) x.types j.0,
+                        (key (codes "values") refl, laid_list value_row keeps_value m (value_laid n) x.values j.1, (key (codes "version") refl, count_laid n 1 refl, tt)),
+                      ),
+                    ),
+                  ),
+                ),
+              ),
+            ),
+          ),
+        ),
+      ),
     )
 
 pub places_laid : (n : ℕ) (p : Places) → are_places p ≡ true → IsLaid (suc (suc (suc (suc n)))) (places p)
@@ -255,7 +327,13 @@ places_laid n p h =
     let a = and_parts (list_all keeps_decl p.decls) _ h in
     let b = and_parts (keeps_module p.«module») (list_all keeps_use p.uses) a.1 in (
       refl,
-      (key (codes "decls") refl, laid_list decl_row keeps_decl m (decl_laid n) p.decls a.0,
-       (key (codes "module") refl, module_utf8 p.«module» b.0,
-        (key (codes "uses") refl, laid_list use_row keeps_use m (use_laid n) p.uses b.1, (key (codes "version") refl, count_laid n 1 refl, tt)))),
+      (
+        key (codes "decls") refl,
+        laid_list decl_row keeps_decl m (decl_laid n) p.decls a.0,
+        (
+          key (codes "module") refl,
+          module_utf8 p.«module» b.0,
+          (key (codes "uses") refl, laid_list use_row keeps_use m (use_laid n) p.uses b.1, (key (codes "version") refl, count_laid n 1 refl, tt)),
+        ),
+      ),
     )

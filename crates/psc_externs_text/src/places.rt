@@ -115,11 +115,7 @@ impl Row for UseRow {
     }
 }
 
-fn use_of(
-    module: Option<ModuleName>,
-    entity: Option<Entity>,
-    span: Option<Span>,
-) -> Option<UseRow>
+fn use_of(module: Option<ModuleName>, entity: Option<Entity>, span: Option<Span>) -> Option<UseRow>
     ensures { (r : UseRow) → «module» ≡ Some r.«module» → entity ≡ Some r.entity → span ≡ Some r.span → result ≡ Some r }
 {
     Some(UseRow {

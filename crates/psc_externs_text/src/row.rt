@@ -57,10 +57,7 @@ pub(crate) fn read_list<T: Row>(
     }
 }
 
-fn read_items<T: Row>(
-    alloc: Global,
-    values: &[Value],
-) -> Result<Option<SharedItems<T>>, NoMemory>
+fn read_items<T: Row>(alloc: Global, values: &[Value]) -> Result<Option<SharedItems<T>>, NoMemory>
     ensures { IfOk result (λ o. (xs : List T) → list_all T.keeps xs ≡ true → map view values.now ≡ map T.json xs → o ≡ Some xs) }
 {
     let mut rows = Vec::new(alloc);
@@ -74,11 +71,7 @@ fn read_items<T: Row>(
 }
 
 /// What stands in a member of an object.
-pub(crate) fn member<T: Row>(
-    alloc: Global,
-    value: &Value,
-    key: &str,
-) -> Result<Option<T>, NoMemory>
+pub(crate) fn member<T: Row>(alloc: Global, value: &Value, key: &str) -> Result<Option<T>, NoMemory>
     ensures { IfOk result (λ o. (x : T) → T.keeps x ≡ true → get key.now (view value.now) ≡ Some (T.json x) → o ≡ Some x) }
 {
     match value.get(key) {

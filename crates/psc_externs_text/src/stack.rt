@@ -55,7 +55,6 @@ pub(crate) fn lone(stack: Vec<Item>) -> Option<Item>
     if stack.is_empty() { Some(top) } else { None }
 }
 
-
 /// Two kinds, the upper one first.
 pub(crate) fn two_kinds(stack: Vec<Item>) -> Option<(Kind, Kind, Vec<Item>)>
     ensures { option_map (λ p. (p.0, p.1, p.2.items)) result ≡ spec.pop_kinds stack.items }

@@ -44,7 +44,11 @@ pub fn read(alloc: Global, bytes: &[u8]) -> Result<Option<Externs>, NoMemory>
 }
 
 /// The interface file, where its text is these bytes.
-fn externs_if_same(alloc: Global, externs: Externs, bytes: &[u8]) -> Result<Option<Externs>, NoMemory>
+fn externs_if_same(
+    alloc: Global,
+    externs: Externs,
+    bytes: &[u8],
+) -> Result<Option<Externs>, NoMemory>
     ensures sound { IfOk result (λ o. (e : Externs) → o ≡ Some e → (is_interface e ≡ true) × (spec.externs_text e ≡ bytes.now)) }
     ensures whole { IfOk result (λ o. spec.externs_text externs ≡ bytes.now → o ≡ Some externs) }
 {

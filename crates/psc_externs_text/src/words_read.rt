@@ -88,7 +88,10 @@ fn arrow_kind(alloc: Global, stack: Vec<Item>) -> Result<Option<Vec<Item>>, NoMe
     match two_kinds(stack) {
         Some((from, to, stack)) => {
             let from = Shared::new(alloc, from)?;
-            push(stack, Item::OfKind(Kind::Arrow(from, Shared::new(alloc, to)?)))
+            push(
+                stack,
+                Item::OfKind(Kind::Arrow(from, Shared::new(alloc, to)?)),
+            )
         }
         None => Ok(None),
     }
@@ -100,7 +103,10 @@ fn application(alloc: Global, stack: Vec<Item>) -> Result<Option<Vec<Item>>, NoM
     match two_types(stack) {
         Some((function, argument, stack)) => {
             let function = Shared::new(alloc, function)?;
-            push(stack, Item::OfType(Ty::App(function, Shared::new(alloc, argument)?)))
+            push(
+                stack,
+                Item::OfType(Ty::App(function, Shared::new(alloc, argument)?)),
+            )
         }
         None => Ok(None),
     }
@@ -111,7 +117,10 @@ fn constrained(alloc: Global, stack: Vec<Item>) -> Result<Option<Vec<Item>>, NoM
 {
     match two_types(stack) {
         Some((given, body, stack)) => match constraint_of(alloc, &given)? {
-            Some(given) => push(stack, Item::OfType(Ty::Given(given, Shared::new(alloc, body)?))),
+            Some(given) => push(
+                stack,
+                Item::OfType(Ty::Given(given, Shared::new(alloc, body)?)),
+            ),
             None => Ok(None),
         },
         None => Ok(None),
@@ -145,7 +154,10 @@ fn quantified(alloc: Global, name: &str, stack: Vec<Item>) -> Result<Option<Vec<
     match kind_and_type(stack) {
         Some((kind, body, stack)) => {
             let name = Ident(Text::new(alloc, name)?);
-            push(stack, Item::OfType(Ty::Forall(name, kind, Shared::new(alloc, body)?)))
+            push(
+                stack,
+                Item::OfType(Ty::Forall(name, kind, Shared::new(alloc, body)?)),
+            )
         }
         None => Ok(None),
     }
@@ -158,7 +170,10 @@ fn labelled(alloc: Global, label: &str, stack: Vec<Item>) -> Result<Option<Vec<I
         Some((first, rest, stack)) => {
             let label = Label(Text::new(alloc, label)?);
             let first = Shared::new(alloc, first)?;
-            push(stack, Item::OfType(Ty::RowCons(label, first, Shared::new(alloc, rest)?)))
+            push(
+                stack,
+                Item::OfType(Ty::RowCons(label, first, Shared::new(alloc, rest)?)),
+            )
         }
         None => Ok(None),
     }
