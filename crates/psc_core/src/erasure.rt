@@ -12,7 +12,7 @@ use crate::dictionary::{dictionary, super_fields};
 use crate::made::{true_binder, variable};
 use crate::numbers::Numbers;
 use crate::rows::{Branch, Row, Test, alternative, case_of, row_of};
-use crate::scan::{after_rows, branches_bind};
+use crate::scan::{after_case, branches_bind};
 use crate::typed::{
     LocalBind, LocalGroup, Typed, TypedBranch, TypedField, TypedLit, TypedOutcome, TypedRow,
     TypedTest,
@@ -179,7 +179,7 @@ fn erase_expr(alloc: Global, typed: &Typed, numbers: &mut Numbers) -> Result<Cor
             result: _,
         } => {
             let first = *numbers;
-            *numbers = after_rows(subjects.len(), rows.as_slice(), first)?;
+            *numbers = after_case(subjects.as_slice(), rows.as_slice(), first)?;
             let subjects = erase_all(alloc, subjects.as_slice(), numbers)?;
             let rows = erase_rows(alloc, ann.span, rows.as_slice(), numbers)?;
             Ok(case_of(alloc, ann.span, subjects, rows, first)?)
@@ -306,11 +306,7 @@ fn erase_fields(
 }
 
 #[cycle(erase)]
-fn erase_field(
-    alloc: Global,
-    field: &TypedField,
-    numbers: &mut Numbers,
-) -> Result<Field, NoMemory>
+fn erase_field(alloc: Global, field: &TypedField, numbers: &mut Numbers) -> Result<Field, NoMemory>
     ensures erased { IfOk result (λ core. core ≡ (spec.field field.now numbers.old).core) }
     ensures counted { IfOk result (λ _. numbers.new ≡ (spec.field field.now numbers.old).next) }
 {

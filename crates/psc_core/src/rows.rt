@@ -440,14 +440,7 @@ fn rows_of(
             Row::Plain(alternative) => before.push(alternative)?,
             Row::Attempt { binders, branches } => {
                 let core = rewritten(
-                    alloc,
-                    at,
-                    subjects,
-                    before,
-                    binders,
-                    branches,
-                    rows,
-                    numbers,
+                    alloc, at, subjects, before, binders, branches, rows, numbers,
                 )?;
                 return Ok(core);
             }
