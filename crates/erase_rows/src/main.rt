@@ -3,11 +3,14 @@
 //! Of `rows.txt` a line `# name` is printed as it stands. `home NAME`, `span PLACE`, `foreign X..` and `exports X..` are what a
 //! module has beside its bindings, until they are told anew. Other lines are the bindings of a module in
 //! the notation; `core` prints its CoreFn and `js` its JavaScript, and `end` forgets the bindings.
+//! At the end stands how the unknowns of a group are numbered.
 #![tactic(auto)]
 
+mod counting;
 mod fault;
 mod notation;
 
+use crate::counting::{Counting, answers};
 use crate::fault::Fault;
 use crate::notation::{Stacks, module_name, span_of};
 use psc_core::{Ann, CoreBind, CoreBinding, CoreModule, LocalBind, LocalGroup, erase};
@@ -177,6 +180,13 @@ fn texts(alloc: Global, rows: &str) -> Result<String, Fault> {
     for line in rows.lines() {
         taken.take(line)?;
     }
+    taken.print("# rigid variables, unknowns and wants by their numbers\n")?;
+    let mut counting = Counting {
+        rigids: 0,
+        unknowns: 0,
+        wants: 0,
+    };
+    taken.print(answers(alloc, &mut counting)?.as_str())?;
     Ok(taken.out)
 }
 

@@ -15,13 +15,16 @@ nested_last at fail (u ∷ us) t e = ap (λ (x : CoreExpr). spec.tested at u x f
 
 pub guard_from_last : (at : Span) (t : Test) (us : List Test) (v : Test) → spec.guard_from at t (us ++ v ∷ []) ≡ spec.nested at False (t ∷ us) v.value
 unfolding spec.nested
+
 unfolding spec.guard_from
 guard_from_last at t [] v = refl
 guard_from_last at t (u ∷ us) v = ap (λ (x : CoreExpr). spec.tested at t x False) (guard_from_last at u us v)
 
 pub guard_last : (at : Span) (ts : List Test) (t : Test) → spec.guard at (ts ++ t ∷ []) ≡ spec.nested at False ts t.value
 unfolding spec.nested
+
 unfolding spec.guard_from
+
 unfolding spec.guard
 guard_last at [] t = refl
 guard_last at (u ∷ us) t = guard_from_last at u us t
@@ -33,13 +36,16 @@ before_last at f (c ∷ cs) b e = ap (λ (x : CoreExpr). spec.placed at f x (spe
 
 pub from_last : (at : Span) (f : ℕ) (c : Branch) (cs : List Branch) (b : Branch) → spec.attempts_from at f c (cs ++ b ∷ []) ≡ spec.attempts_before at f (c ∷ cs) (spec.attempt at (f + suc (length cs)) b)
 unfolding spec.attempts_before
+
 unfolding spec.attempts_from
 from_last at f c [] b = refl
 from_last at f c (d ∷ ds) b = ap (λ (x : CoreExpr). spec.placed at f x (spec.attempt at f c)) (from_last at (suc f) d ds b)
 
 pub attempts_last : (at : Span) (f : ℕ) (bs : List Branch) (b : Branch) → spec.attempts at f (bs ++ b ∷ []) ≡ spec.attempts_before at f bs (spec.attempt at (f + length bs) b)
 unfolding spec.attempts_before
+
 unfolding spec.attempts_from
+
 unfolding spec.attempts
 attempts_last at f [] b = refl
 attempts_last at f (c ∷ cs) b = from_last at f c cs b

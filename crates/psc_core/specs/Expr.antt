@@ -70,14 +70,17 @@ guarded_places bs = if any_binds bs then length bs else 0
 unfoldable pub after_row : ℕ → ℕ → Numbers → Numbers
 after_row subjects places n = if places == 0 then n else after n subjects places
 
--- the numbers that come next after those that a case takes
+-- the numbers that come next after those of these alternatives
 unfoldable pub after_rows : ℕ → List Alternative → Numbers → Numbers
 after_rows subjects [] n = n
 after_rows subjects (r ∷ rs) n = after_rows subjects rs (after_row subjects r.places n)
 
+abbrev pub after_case : List (Erasing CoreExpr) → List Alternative → Numbers → Numbers
+after_case es rows n = after_rows (length es) rows n
+
 -- a case takes its numbers before those inside its parts
 abbrev pub case : Span → List (Erasing CoreExpr) → List Alternative → Erasing CoreExpr
-case at es rows n = both (λ subjects alternatives. case_of at subjects [] alternatives n) (all es) (all (map (row_at at) rows)) (after_rows (length es) rows n)
+case at es rows n = both (λ subjects alternatives. case_of at subjects [] alternatives n) (all es) (all (map (row_at at) rows)) (after_case es rows n)
 
 -- the function of a newtype is that of no change
 abbrev pub identity : Ann → CoreExpr

@@ -107,13 +107,16 @@ with_subjects at s es body = core.Let (plain at) (subject_binds at s es) body
 abbrev pub tried : Span → List CoreAlternative → List CoreBinder → List CoreBinder → ℕ → ℕ → List Branch → List CoreAlternative
 tried at before ps any f last bs = before ++ alternative ps (attempts at f bs) ∷ alternative any (going_on at last) ∷ []
 
--- a case of these subjects, whose first alternatives are given, and these rows. The first row with a test `p <- e` is
--- tried with the subjects named, and the rows behind it stand at the place of its last branch
+-- a case whose subjects are named, up to an alternative that has branches to try, and the rest at the place of the last one
+abbrev pub attempted : Span → List CoreExpr → List CoreAlternative → List CoreBinder → List Branch → CoreExpr → Numbers → CoreExpr
+attempted at es before ps bs rest n = with_subjects at n.subjects es (placed at (last_place n.places bs) rest (core.Case (plain at) (subjects_named at n.subjects es) (tried at before ps (any_binders at es) n.places (last_place n.places bs) bs)))
+
+-- a case of these subjects, whose first alternatives are given, and these rows
 unfoldable pub case_of : Span → List CoreExpr → List CoreAlternative → List Row → Numbers → CoreExpr
 case_of at es before [] n = core.Case (plain at) es before
 case_of at es before (Plain a ∷ rows) n = case_of at es (before ++ a ∷ []) rows n
-case_of at es before (Attempt ps bs ∷ rows) n = with_subjects at n.subjects es (placed at (last_place n.places bs) (case_of at (subjects_named at n.subjects es) [] rows (after n (length es) (length bs))) (core.Case (plain at) (subjects_named at n.subjects es) (tried at before ps (any_binders at es) n.places (last_place n.places bs) bs)))
+case_of at es before (Attempt ps bs ∷ rows) n = attempted at es before ps bs (case_of at (subjects_named at n.subjects es) [] rows (after n (length es) (length bs))) n
 
--- the same, of a row with a test `p <- e` and the rows behind it
+-- the same, of a row with branches to try and the rows behind it
 abbrev pub rewritten : Span → List CoreExpr → List CoreAlternative → List CoreBinder → List Branch → List Row → Numbers → CoreExpr
-rewritten at es before ps bs rows n = with_subjects at n.subjects es (placed at (last_place n.places bs) (case_of at (subjects_named at n.subjects es) [] rows (after n (length es) (length bs))) (core.Case (plain at) (subjects_named at n.subjects es) (tried at before ps (any_binders at es) n.places (last_place n.places bs) bs)))
+rewritten at es before ps bs rows n = attempted at es before ps bs (case_of at (subjects_named at n.subjects es) [] rows (after n (length es) (length bs))) n

@@ -12,7 +12,7 @@ use crate::dictionary::{dictionary, super_fields};
 use crate::made::{true_binder, variable};
 use crate::numbers::Numbers;
 use crate::rows::{Branch, Row, Test, alternative, case_of, row_of};
-use crate::scan::{after_rows, branches_bind};
+use crate::scan::{after_case, branches_bind};
 use crate::typed::{
     LocalBind, LocalGroup, Typed, TypedBranch, TypedField, TypedLit, TypedOutcome, TypedRow,
     TypedTest,
@@ -150,7 +150,7 @@ fn erase_expr(alloc: Global, typed: &Typed, numbers: &mut Numbers) -> Result<Cor
             body,
         } => {
             let body = erase_boxed(alloc, body.get(), numbers)?;
-            lambda(ann, name, body)
+            Ok(lambda(ann, name, body)?)
         }
         Typed::App {
             ann,
@@ -179,10 +179,10 @@ fn erase_expr(alloc: Global, typed: &Typed, numbers: &mut Numbers) -> Result<Cor
             result: _,
         } => {
             let first = *numbers;
-            *numbers = after_rows(subjects.len(), rows.as_slice(), first)?;
+            *numbers = after_case(subjects.as_slice(), rows.as_slice(), first)?;
             let subjects = erase_all(alloc, subjects.as_slice(), numbers)?;
             let rows = erase_rows(alloc, ann.span, rows.as_slice(), numbers)?;
-            case_of(alloc, ann.span, subjects, rows, first)
+            Ok(case_of(alloc, ann.span, subjects, rows, first)?)
         }
         Typed::Let { ann, groups, body } => {
             let binds = erase_groups(alloc, groups.as_slice(), numbers)?;
@@ -211,7 +211,7 @@ fn erase_expr(alloc: Global, typed: &Typed, numbers: &mut Numbers) -> Result<Cor
             body,
         } => {
             let body = erase_boxed(alloc, body.get(), numbers)?;
-            lambda(ann, name, body)
+            Ok(lambda(ann, name, body)?)
         }
         Typed::DictApp {
             ann,
@@ -306,11 +306,7 @@ fn erase_fields(
 }
 
 #[cycle(erase)]
-fn erase_field(
-    alloc: Global,
-    field: &TypedField,
-    numbers: &mut Numbers,
-) -> Result<Field, NoMemory>
+fn erase_field(alloc: Global, field: &TypedField, numbers: &mut Numbers) -> Result<Field, NoMemory>
     ensures erased { IfOk result (λ core. core ≡ (spec.field field.now numbers.old).core) }
     ensures counted { IfOk result (λ _. numbers.new ≡ (spec.field field.now numbers.old).next) }
 {
@@ -348,7 +344,7 @@ fn erase_row(
     ensures counted { IfOk result (λ _. numbers.new ≡ (spec.row_at at (spec.row row.now) numbers.old).next) }
 {
     let binders = erase_binders(alloc, row.binders.as_slice())?;
-    erase_outcome(alloc, at, &row.outcome, binders, numbers)
+    Ok(erase_outcome(alloc, at, &row.outcome, binders, numbers)?)
 }
 
 #[cycle(erase)]
@@ -370,7 +366,7 @@ fn erase_outcome(
         TypedOutcome::Guarded(branches) => {
             let binds = branches_bind(branches.as_slice());
             let branches = erase_branches(alloc, at, branches.as_slice(), numbers)?;
-            row_of(alloc, at, binds, binders, branches)
+            Ok(row_of(alloc, at, binds, binders, branches)?)
         }
     }
 }

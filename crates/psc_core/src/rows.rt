@@ -153,6 +153,13 @@ fn nested(
     Ok(made)
 }
 
+fn value_of(test: Test) -> CoreExpr
+    ensures { result ≡ test.value }
+{
+    let Test { binder: _, value } = test;
+    value
+}
+
 /// One boolean for the tests of a branch.
 #[tactic(auto, using(crate::proofs::RowRules::guard_last), unfolding(crate::specs::Rows::guard))]
 fn guard(alloc: Global, at: Span, tests: Items<Test>) -> Result<CoreExpr, NoMemory>
@@ -161,7 +168,7 @@ fn guard(alloc: Global, at: Span, tests: Items<Test>) -> Result<CoreExpr, NoMemo
     let mut tests = tests;
     match tests.pop() {
         None => Ok(truth(at, true)),
-        Some(last) => nested(alloc, at, tests, last.value, Failure::False),
+        Some(last) => Ok(nested(alloc, at, tests, value_of(last), Failure::False)?),
     }
 }
 
@@ -232,7 +239,7 @@ fn attempt(alloc: Global, at: Span, number: usize, branch: Branch) -> Result<Cor
     ensures { IfOk result (λ core. core ≡ spec.attempt at number branch) }
 {
     let Branch { tests, body } = branch;
-    nested(alloc, at, tests, body, Failure::GoOn(number))
+    Ok(nested(alloc, at, tests, body, Failure::GoOn(number))?)
 }
 
 /// Branches before another one, each of which goes on with the next.
@@ -268,11 +275,11 @@ fn attempts(
 {
     let mut branches = branches;
     match branches.pop() {
-        None => going_on(alloc, at, first),
+        None => Ok(going_on(alloc, at, first)?),
         Some(last) => {
             let number = behind(first, branches.len())?;
             let last = attempt(alloc, at, number, last)?;
-            attempts_before(alloc, at, first, branches, last)
+            Ok(attempts_before(alloc, at, first, branches, last)?)
         }
     }
 }
@@ -411,7 +418,7 @@ fn rewritten(
     let again = subjects_named(alloc, at, first, subjects.as_slice())?;
     let rest = rows_of(alloc, at, again, rows, next)?;
     let body = placed(alloc, at, last, rest, case)?;
-    with_subjects(alloc, at, first, subjects, body)
+    Ok(with_subjects(alloc, at, first, subjects, body)?)
 }
 
 /// A case of these subjects and these rows, the last one first.
@@ -432,7 +439,10 @@ fn rows_of(
         match row {
             Row::Plain(alternative) => before.push(alternative)?,
             Row::Attempt { binders, branches } => {
-                return rewritten(alloc, at, subjects, before, binders, branches, rows, numbers);
+                let core = rewritten(
+                    alloc, at, subjects, before, binders, branches, rows, numbers,
+                )?;
+                return Ok(core);
             }
         }
     }
@@ -454,5 +464,5 @@ pub(crate) fn case_of(
     ensures { IfOk result (λ core. core ≡ spec.case_of at subjects [] rows numbers) }
 {
     let waiting = reversed(alloc, rows)?;
-    rows_of(alloc, at, subjects, waiting, numbers)
+    Ok(rows_of(alloc, at, subjects, waiting, numbers)?)
 }

@@ -4,7 +4,7 @@ ghost use Rattle.std.specs.Prelude.{◌≡◌, IfOk, map};
 ghost use Rattle.psc_core.specs.Expr as spec;
 
 use crate::numbers::{Numbers, after};
-use crate::typed::{TypedBranch, TypedOutcome, TypedRow, TypedTest};
+use crate::typed::{Typed, TypedBranch, TypedOutcome, TypedRow, TypedTest};
 use psc_text::NoMemory;
 
 fn test_binds(test: &TypedTest) -> bool
@@ -83,13 +83,9 @@ fn after_row(subjects: usize, places: usize, numbers: Numbers) -> Result<Numbers
     }
 }
 
-/// The numbers that come next after those that a case of so many subjects takes.
+/// The numbers that come next after those of rows, in a case of so many subjects.
 #[tactic(auto, unfolding(crate::specs::Expr::after_rows))]
-pub(crate) fn after_rows(
-    subjects: usize,
-    rows: &[TypedRow],
-    numbers: Numbers,
-) -> Result<Numbers, NoMemory>
+fn after_rows(subjects: usize, rows: &[TypedRow], numbers: Numbers) -> Result<Numbers, NoMemory>
     ensures { IfOk result (λ next. next ≡ spec.after_rows subjects (map spec.row rows.now) numbers) }
 {
     let mut next = numbers;
@@ -97,4 +93,15 @@ pub(crate) fn after_rows(
         next = after_row(subjects, row_places(row), next)?;
     }
     Ok(next)
+}
+
+/// The numbers that come next after those that a case takes for itself.
+pub(crate) fn after_case(
+    subjects: &[Typed],
+    rows: &[TypedRow],
+    numbers: Numbers,
+) -> Result<Numbers, NoMemory>
+    ensures { IfOk result (λ next. next ≡ spec.after_case (map spec.expr subjects.now) (map spec.row rows.now) numbers) }
+{
+    Ok(after_rows(subjects.len(), rows, numbers)?)
 }
