@@ -1,13 +1,13 @@
 //! Types, kinds and constraints that may stand in an interface file: without unknowns and `$any`,
 //! with the module of each name that another module may have.
 
-ghost use Rattle.std.specs.Prelude.{◌≡◌, ◌↔◌, IsTrue, IsSome, IfSome, Some};
+ghost use Rattle.std.specs.Prelude.{◌≡◌, ◌↔◌, IsTrue, IsSome, IfSome};
 ghost use Rattle.psc_externs.specs.Written as spec;
 ghost use Rattle.psc_externs.specs.Names as names;
 
 use crate::name::is_name;
 use crate::sizes::{is_long, is_long_constraint, is_long_kind};
-use psc_text::{Ident, ModuleName, Qualified};
+use psc_text::{Ident, Qualified};
 use psc_type::{Constraint, Kind, Ty};
 use std::alloc::AllocError;
 use std::marker::Model;
@@ -176,21 +176,10 @@ fn is_ident(name: &Ident) -> bool
     is_name(name.0.as_str().as_bytes())
 }
 
-/// Whether the text is a module's name: each value of this type is one.
-fn is_module(name: &ModuleName) -> bool
-    ensures { result ≡ names.is_module (Some name.now) }
-{
-    let _upper_names = name.as_str();
-    true
-}
-
 fn is_true_name(name: &Qualified) -> bool
     ensures { result ≡ names.is_true_name name.now }
 {
-    match &name.module {
-        Some(module) => is_module(module) && is_name(name.name.as_str().as_bytes()),
-        None => false,
-    }
+    name.module.is_some() && is_name(name.name.as_str().as_bytes())
 }
 
 #[cycle(written)]

@@ -3,10 +3,8 @@
 //! An import without `as` gives names without a module before them, one with `as Q` gives `Q.x` alone. The names of a list
 //! come before those of open and hiding imports. A name in a list that the module does not export is an UnknownImport.
 
-ghost use Rattle.std.specs.Prelude.{◌≡◌, [], ◌∷◌, IfOk, IfErr};
-ghost use Rattle.psc_error.specs.declared.code.Code.TheVariants.{UnknownImport};
+ghost use Rattle.std.specs.Prelude.{◌≡◌, IfOk};
 ghost use Rattle.psc_imports.specs.Lists as spec;
-ghost use Rattle.psc_scope.specs.Problems as problems;
 
 use crate::world::{Given, Interface, World};
 use psc_ast::{Ctors, ImportList, ImportTree, ModuleAt, Ref, UpperAt};

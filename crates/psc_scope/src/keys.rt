@@ -10,7 +10,7 @@ use psc_text::{ModuleName, NoMemory, OpName, Qualified, Text, begins_upper};
 use std::alloc::Global;
 
 /// A name space. They are in the order of the words that interface files call them by.
-#[derive(Clone, Copy, Debug, PartialEq, Eq, PartialOrd, Ord)]
+#[derive(Clone, Copy, PartialEq, Eq, PartialOrd, Ord)]
 pub enum Area {
     Constructor,
     /// Types, synonyms and classes.
@@ -46,7 +46,7 @@ impl Area {
 }
 
 /// A name in its name space, with the module before its dot, if one is written.
-#[derive(Debug, PartialEq, Eq, PartialOrd, Ord, Drop)]
+#[derive(PartialEq, Eq, PartialOrd, Ord, Drop)]
 pub struct Key {
     pub area: Area,
     pub name: Text,

@@ -5,7 +5,7 @@ use std::alloc::Global;
 use std::collections::BTreeMap;
 
 /// The bound names at a place, and how often each is bound.
-#[derive(Debug, Drop)]
+#[derive(Drop)]
 pub struct Locals {
     counts: BTreeMap<Text, u32>,
     /// The bound names, the innermost last.

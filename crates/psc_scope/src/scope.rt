@@ -13,7 +13,7 @@ use std::alloc::Global;
 use std::collections::{BTreeMap, BTreeSet};
 
 /// Where a candidate comes from.
-#[derive(Clone, Copy, Debug, PartialEq, Eq)]
+#[derive(Clone, Copy, PartialEq, Eq)]
 pub enum Class {
     /// A declaration of the module itself.
     Own,
@@ -26,7 +26,7 @@ pub enum Class {
 }
 
 /// The modules that declare what a name may stand for, by classes.
-#[derive(Debug, Drop)]
+#[derive(Drop)]
 pub struct Candidates {
     own: BTreeSet<ModuleName>,
     explicit: BTreeSet<ModuleName>,
@@ -96,7 +96,7 @@ impl Candidates {
 }
 
 /// What a name stands for.
-#[derive(Debug, Drop)]
+#[derive(Drop)]
 pub enum Found {
     /// No candidate: the name is not known.
     Nothing,
@@ -127,7 +127,7 @@ fn verdict(modules: Items<ModuleName>) -> Result<Found, NoMemory>
 }
 
 /// All names that are in scope in the whole module.
-#[derive(Debug, Drop)]
+#[derive(Drop)]
 pub struct Scope {
     alloc: Global,
     rows: BTreeMap<Key, Candidates>,

@@ -9,7 +9,7 @@ use psc_text::{ModuleName, NoMemory, Span, Text};
 use std::alloc::{AllocError, AllocFailed, Global};
 
 /// What is wrong with a module.
-#[derive(Debug, Drop)]
+#[derive(Drop)]
 pub struct Problem {
     pub code: Code,
     pub span: Span,
@@ -17,7 +17,7 @@ pub struct Problem {
 }
 
 /// Why a phase has no result.
-#[derive(Debug, Drop)]
+#[derive(Drop)]
 pub enum Stop {
     NoMemory,
     Wrong(Problem),
