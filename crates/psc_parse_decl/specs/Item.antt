@@ -1,5 +1,5 @@
 -- What is wrong with an item, by what was found of it.
-use Rattle.std.specs.Prelude.{List, take, Option, Some, None, Result, Ok, Err}
+use Rattle.std.specs.Prelude.{List, ◌≡◌, Option, Some, None, Result, Ok, Err}
 use Rattle.psc_parse_base.specs.declared.symbol.Sym.{Sym}
 use Rattle.psc_parse_decl.specs.declared.cut.Left.{Left}
 use Rattle.psc_parse_decl.specs.declared.item.Piece.{Piece}
@@ -12,7 +12,7 @@ in_range (Err wrong) wide = Err wrong
 in_range (Ok piece) (Some literal) = Err (Wrong.Wide literal)
 in_range (Ok piece) None = Ok piece
 
--- the item that is read next: the next one of the block, or else the first symbol behind it by itself
-abbrev pub next_of : Left → List Sym
-next_of (Left.Item item rest) = item
-next_of (Left.Behind rest) = take 1 rest
+-- what fails is the next item of the block, where there is one
+abbrev pub IsNext : List Sym → Left → Type 0
+IsNext failed (Left.Item item rest) = failed ≡ item.now
+IsNext failed (Left.Behind rest) = Unit

@@ -1,6 +1,6 @@
 //! Items one after another, and the first error among them.
 
-ghost use Rattle.std.specs.Prelude.{◌≡◌, IfSome, IfErr, Err, take};
+ghost use Rattle.std.specs.Prelude.{◌≡◌, IfSome, IfErr, Err};
 ghost use Rattle.psc_parse_decl.specs.declared.verdict.Wrong.{Wrong};
 ghost use Rattle.psc_parse_decl.specs.Item as spec;
 
@@ -154,13 +154,13 @@ impl Pieces {
         Ok(())
     }
 
-    /// Reads what is left of the module's block next: its next item, if there is one. What fails is that item.
+    /// Reads what comes next of the module's block. Where that is an item and something fails, it is that item.
     fn read_next<'a>(
         &mut self,
         alloc: Global,
         left: Left<'a>,
     ) -> Result<Option<Left<'a>>, Failed<'a>>
-        ensures place { IfErr result (λ failed. failed.item ≡ spec.next_of left) }
+        ensures place { IfErr result (λ failed. spec.IsNext failed.item.now left) }
     {
         match left {
             Left::Behind(rest) => match behind(rest) {
@@ -179,9 +179,7 @@ impl Pieces {
 }
 
 /// A token behind the module's block is an item by itself, and fails.
-fn behind(syms: &[Sym]) -> Option<(&[Sym], Code)>
-    ensures { IfSome result (λ found. found.0.now ≡ take 1 syms.now) }
-{
+fn behind(syms: &[Sym]) -> Option<(&[Sym], Code)> {
     let first = syms.get(..1)?;
     let code = if has_outside_form(first) {
         Code::OutsideProfile
