@@ -1,34 +1,63 @@
 //! A module of many bindings that are alike.
 
 use crate::expr::{Nodes, PLACE};
-use psc_core_tree::{CoreAlternative, CoreBind, CoreExpr, CoreModule};
+use psc_core_tree::{CoreAlternative, CoreBind, CoreBinder, CoreExpr, CoreModule, Field};
 use psc_items::SharedItems;
 use psc_text::{ModuleName, NoMemory, Text, read_module_name};
 use sqlite_items::Items;
 use std::alloc::Global;
 
-/// `apply (Data.Map.insert x) { first: "..", second: [x, 42] }`
-fn applied(n: Nodes) -> Result<CoreExpr, NoMemory> {
-    let function = n.call(n.of("Data.Map", "insert")?, n.local("x")?)?;
+/// `Data.Map.insert x`
+fn insertion(n: Nodes) -> Result<CoreExpr, NoMemory> {
+    n.call(n.of("Data.Map", "insert")?, n.local("x")?)
+}
+
+/// `first: ".."`
+fn first(n: Nodes) -> Result<Field, NoMemory> {
+    n.field("first", n.string("a text of some words, \"quoted\"\n")?)
+}
+
+/// `second: [x, 42]`
+fn second(n: Nodes) -> Result<Field, NoMemory> {
     let items = n.items([n.local("x")?, n.int(42)])?;
-    let first = n.field("first", n.string("a text of some words, \"quoted\"\n")?)?;
-    let second = n.field("second", n.array(items))?;
-    n.call(function, n.record(n.items([first, second])?))
+    n.field("second", n.array(items))
+}
+
+/// `{ first: "..", second: [x, 42] }`
+fn record(n: Nodes) -> Result<CoreExpr, NoMemory> {
+    let fields = n.items([first(n)?, second(n)?])?;
+    Ok(n.record(fields))
+}
+
+/// `Data.Map.insert x { first: "..", second: [x, 42] }`
+fn applied(n: Nodes) -> Result<CoreExpr, NoMemory> {
+    n.call(insertion(n)?, record(n)?)
+}
+
+fn just(n: Nodes) -> Result<CoreBinder, NoMemory> {
+    n.made("Just", n.items([n.var("x")?])?)
+}
+
+fn nothing(n: Nodes) -> Result<CoreBinder, NoMemory> {
+    n.made("Nothing", n.items([])?)
 }
 
 /// `Just x, 1 -> ..`
 fn of_just(n: Nodes) -> Result<CoreAlternative, NoMemory> {
-    let just = n.made("Just", n.items([n.var("x")?])?)?;
-    let binders = n.items([just, n.is_int(1)])?;
+    let binders = n.items([just(n)?, n.is_int(1)])?;
     Ok(n.gives(binders, applied(n)?))
 }
 
-/// `Nothing, size' -> let new = size' in new`
+/// `let new = size' in new`
+fn renamed(n: Nodes) -> Result<CoreExpr, NoMemory> {
+    let bind = n.bind("new", n.local("size'")?)?;
+    n.let_of(bind, n.local("new")?)
+}
+
+/// `Nothing, size' -> ..`
 fn of_nothing(n: Nodes) -> Result<CoreAlternative, NoMemory> {
-    let nothing = n.made("Nothing", n.items([])?)?;
-    let binders = n.items([nothing, n.var("size'")?])?;
-    let body = n.let_of(n.bind("new", n.local("size'")?)?, n.local("new")?)?;
-    Ok(n.gives(binders, body))
+    let binders = n.items([nothing(n)?, n.var("size'")?])?;
+    Ok(n.gives(binders, renamed(n)?))
 }
 
 /// `_, _ -> "none"`
@@ -37,14 +66,18 @@ fn of_others(n: Nodes) -> Result<CoreAlternative, NoMemory> {
     Ok(n.gives(binders, n.string("none")?))
 }
 
+fn alternatives(n: Nodes) -> Result<Items<CoreAlternative>, NoMemory> {
+    n.items([of_just(n)?, of_nothing(n)?, of_others(n)?])
+}
+
+fn subjects(n: Nodes) -> Result<Items<CoreExpr>, NoMemory> {
+    n.items([n.local("value")?, n.local("size")?])
+}
+
 /// `\value size -> case value, size of ..`
 fn body(n: Nodes) -> Result<CoreExpr, NoMemory> {
-    let subjects = n.items([n.local("value")?, n.local("size")?])?;
-    let alternatives = n.items([of_just(n)?, of_nothing(n)?, of_others(n)?])?;
-    n.lambda(
-        "value",
-        n.lambda("size", n.case_of(subjects, alternatives))?,
-    )
+    let chosen = n.case_of(subjects(n)?, alternatives(n)?);
+    n.lambda("value", n.lambda("size", chosen)?)
 }
 
 fn name_of(alloc: Global, number: usize) -> Result<Text, NoMemory> {
