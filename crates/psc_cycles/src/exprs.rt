@@ -118,7 +118,6 @@ fn paren(walk: &mut Walk, inner: &ExprTree) -> Result<(), NoMemory> {
 }
 
 /// Whether a `_` is an operand of a chain.
-#[cycle(holes)]
 fn has_hole(tree: &ExprTree) -> bool {
     match tree {
         ExprTree::Hole { .. } => true,

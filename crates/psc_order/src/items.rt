@@ -3,9 +3,7 @@
 use crate::binds::clause;
 use crate::state::{Bracketing, FUEL, Refusal, in_order};
 use crate::types::{constraint_list, kind_size, sig, type_list, vars_size, x_type};
-use psc_ast::{
-    ClassDecl, Ctor, DataDecl, Decl, Fixities, InstanceDecl, Module, SynonymDecl,
-};
+use psc_ast::{ClassDecl, Ctor, DataDecl, Decl, Fixities, InstanceDecl, Module, SynonymDecl};
 use psc_chain::Size;
 use psc_error::{Code, PsError};
 use psc_items::SharedItems;

@@ -147,12 +147,7 @@ impl Bracketing {
     }
 
     /// Keeps what is wrong with a chain, if it is the first of its item.
-    fn refuse(
-        &mut self,
-        mentions: &[Mention],
-        space: Space,
-        clash: Clash,
-    ) -> Result<(), NoMemory> {
+    fn refuse(&mut self, mentions: &[Mention], space: Space, clash: Clash) -> Result<(), NoMemory> {
         if self.refusal.is_some() {
             return Ok(());
         }
@@ -256,10 +251,7 @@ fn pieces_of<T: Drop>(alloc: Global, reading: Reading<T>) -> Result<Pieces<T>, N
 }
 
 /// The elements of a list, in their order.
-pub(crate) fn in_order<T: Drop>(
-    alloc: Global,
-    items: Items<T>,
-) -> Result<Vec<T>, NoMemory> {
+pub(crate) fn in_order<T: Drop>(alloc: Global, items: Items<T>) -> Result<Vec<T>, NoMemory> {
     let mut items = items;
     let mut list = Vec::new(alloc);
     for _ in 0..items.len() {
