@@ -14,7 +14,7 @@ add_type-returns-in_ok-variable-in-Var-clause-value t c = λ bare plain ready.
 
 pub add_type-returns-in_ok-constructor-in-Con-clause-value : goal.add_type-returns-in_ok-constructor-in-Con-clause-value
 add_type-returns-in_ok-constructor-in-Con-clause-value t c = λ bare plain ready.
-    constant_case _ _ _ _ _ _ _ (Con c.in-Con.name) c.in-Con.is (ap Con c.in_ok-clone-in-Con.ensures) (λ e g. tree-Con e g c.in-Con.name) c.in_ok-constructor-in-Con.ensures.place
+    constant_case _ _ _ _ _ _ _ (Con c.in-Con.name) c.in-Con.is (ap Con c.in_ok-clone-in-Con.ensures.cases) (λ e g. tree-Con e g c.in-Con.name) c.in_ok-constructor-in-Con.ensures.place
 
 pub add_type-returns-in_ok-empty-in-RowNil-clause-value : goal.add_type-returns-in_ok-empty-in-RowNil-clause-value
 add_type-returns-in_ok-empty-in-RowNil-clause-value t c = λ bare plain ready.
@@ -22,7 +22,7 @@ add_type-returns-in_ok-empty-in-RowNil-clause-value t c = λ bare plain ready.
 
 pub add_type-returns-in_ok-symbol-in-Symbol-clause-value : goal.add_type-returns-in_ok-symbol-in-Symbol-clause-value
 add_type-returns-in_ok-symbol-in-Symbol-clause-value t c = λ bare plain ready.
-    constant_case _ _ _ _ _ _ _ (Symbol c.in-Symbol.text) c.in-Symbol.is (ap Symbol c.in_ok-clone-in-Symbol.ensures) (λ e g. tree-Symbol e g c.in-Symbol.text) c.in_ok-symbol-in-Symbol.ensures.place
+    constant_case _ _ _ _ _ _ _ (Symbol c.in-Symbol.text) c.in-Symbol.is (ap Symbol c.in_ok-clone-in-Symbol.ensures.cases) (λ e g. tree-Symbol e g c.in-Symbol.text) c.in_ok-symbol-in-Symbol.ensures.place
 
 pub add_type-returns-in_ok-application-in-App-clause-adds : goal.add_type-returns-in_ok-application-in-App-clause-adds
 add_type-returns-in_ok-application-in-App-clause-adds t c = adds_more _ _ _ (adds_more _ _ _ c.in_ok-left-in-App.ensures.adds c.in_ok-right-in-App.ensures.adds) c.in_ok-application-in-App.ensures.adds

@@ -9,4 +9,4 @@ loop-preserved c = λ ready all. c.in_ok-visit.ensures ready (c.loop.invariant r
 
 pub returns-in_default : goal.returns-in_default
 returns-in_default c = λ ready all.
-    reads_copy c.args.state.now _ _ _ c.in_ok-copy.ensures (reads_copy c.args.state.now _ _ _ c.get.ensures (c.in_ok-ty.ensures (c.loop.invariant ready all)))
+    reads_copy c.args.state.now _ _ _ c.in_ok-copy.ensures.cases (reads_copy c.args.state.now _ _ _ c.get.ensures (c.in_ok-ty.ensures (c.loop.invariant ready all)))
