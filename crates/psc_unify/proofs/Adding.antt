@@ -1,5 +1,5 @@
 -- The nodes of a type have the type's tree as their value.
-use Rattle.std.proofs.Common.{◌≡◌, ℕ, ◌<◌, List, [], ◌∷◌, ◌++◌, length, Option, Some, None, slice_get, get_or, ap, refl, sym, ◌∙◌, subst}
+use Rattle.std.proofs.Common.{◌≡◌, ℕ, ◌<◌, List, length, Option, Some, None, slice_get, get_or, ap, sym, ◌∙◌}
 use Rattle.std.proofs.lemmas.Option.{slice_get-get_or}
 use Rattle.psc_text.specs.declared.names.Ident.{Ident}
 use Rattle.psc_text.specs.declared.names.Label.{Label}
@@ -17,8 +17,8 @@ use Rattle.psc_type.specs.declared.ty.Ty.TheVariants as ty
 use Rattle.psc_unify.specs.declared.names.Constant.{Constant}
 use Rattle.psc_unify.specs.declared.tables.Names.{Names}
 use Rattle.psc_unify.specs.Naming.{Naming, IsResult}
-use Rattle.psc_unify.specs.Meaning.{tree, apply}
-use Rattle.psc_unify.specs.Solved.{Fits, Continues, Adds, Values, Means}
+use Rattle.psc_unify.specs.Meaning.{tree}
+use Rattle.psc_unify.specs.Solved.{Fits, Continues, Adds, Means}
 use Rattle.psc_unify.proofs.Naming.{fits_before}
 use Rattle.psc_unify.proofs.Trees.{tree-Var, tree-Unknown, tree-App, tree-RowCons}
 

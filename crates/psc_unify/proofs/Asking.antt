@@ -1,22 +1,17 @@
 -- A new unknown.
-use Rattle.std.proofs.Common.{◌≡◌, ℕ, ◌<◌, ◌≤◌, ◌+◌, List, [], ◌∷◌, ◌++◌, length, length-append, Option, Some, None, slice_get, get_or, ap, refl, sym, ◌∙◌, ◌⊎◌, subst, inl, inr, arith}
-use Rattle.std.proofs.lemmas.Option.{slice_get_within, slice_get-get_or, get_or_from_slice_get}
-use Rattle.psc_graph.specs.Tree.{Tree, Hole}
-use Rattle.psc_graph.specs.Tree as spec
-use Rattle.psc_graph.specs.General.{IsSolution, IsReady, IsMostGeneral, Grows, Agrees, kind_of}
-use Rattle.psc_graph.specs.declared.node.Node.{Node}
+use Rattle.std.proofs.Common.{◌≡◌, ℕ, ◌+◌, List, [], ◌∷◌, ◌++◌, length, length-append, Some, slice_get, ap, sym, ◌∙◌, ◌⊎◌, subst, inl, inr}
+use Rattle.std.proofs.lemmas.Option.{slice_get_within}
+use Rattle.psc_graph.specs.Tree.{Tree}
+use Rattle.psc_graph.specs.General.{IsSolution, kind_of}
 use Rattle.psc_graph.specs.declared.node.Node.TheVariants.{Free}
 use Rattle.psc_graph.proofs.Writes.{after_push, before_push, pushed}
 use Rattle.psc_graph.proofs.PushLemmas.{continued, agrees_continued, at_continued, solves_with, suits_with}
-use Rattle.psc_rows.specs.Steps.{Steps}
 use Rattle.psc_rows.specs.declared.graph.Graph.{Graph}
 use Rattle.psc_type.specs.declared.ty.Ty.{Ty}
 use Rattle.psc_unify.specs.declared.tables.Names.{Names}
 use Rattle.psc_unify.specs.Naming.{Naming}
-use Rattle.psc_unify.specs.Meaning.{tree}
-use Rattle.psc_unify.specs.Solved.{Fits, Continues, Adds, Values, Means, AllEqual, IsSolutionOf, IsMostGeneralOf, Stands, HasNone, ArePlain}
-use Rattle.psc_unify.proofs.Naming.{fits_before}
-use Rattle.psc_unify.proofs.Small.{lt_more, lt_same, lt_last, lt_next, not_below, nothing_below, none_some}
+use Rattle.psc_unify.specs.Solved.{Adds, Values, IsSolutionOf, Stands}
+use Rattle.psc_unify.proofs.Small.{lt_last, lt_next, not_below}
 
 module _ (old new : Graph) (names : Names) (unknowns asked kinds : List ℕ) (eqs : List (Ty × Ty)) (p s : ℕ)
     (is_nodes : new.nodes.items ≡ old.nodes.items ++ Free s ∷ []) (last : p ≡ length old.nodes.items) (is_asked : asked ≡ unknowns ++ p ∷ [])
@@ -66,18 +61,19 @@ module _ (old new : Graph) (names : Names) (unknowns asked kinds : List ℕ) (eq
         let t = g (length unknowns) in
         let kind : kind_of t ≡ Some s = sol.kind (length unknowns) s (rw (← st.count) (pushed kinds s)) in
         let w = continued v len t in
-        let a = agrees_continued v len t in
-        (w,
-         subst (IsSolution w) (sym is_nodes) (record {
-           solves = solves_with v old.nodes.items (Free s) t st.ready.most.closed tt before.1.solves tt;
-           suits = suits_with v old.nodes.items (Free s) t before.1.suits (λ z q. kind ∙ ap (λ (j : ℕ). Some j) (same_kind s z q));
-         }),
-         record {
-           at = λ x k e. elim (place x k e) [
-             | inl h ↦ ap g h.0 ∙ sym (at_continued v len t) ∙ ap w (sym last) ∙ ap w (sym h.1)
-             | inr h ↦ before.2.at x k h ∙ sym (a.below k (st.inside x k h))
-           ];
-         });
+        let a = agrees_continued v len t in (
+          w,
+          subst (IsSolution w) (sym is_nodes) (record {
+            solves = solves_with v old.nodes.items (Free s) t st.ready.most.closed tt before.1.solves tt;
+            suits = suits_with v old.nodes.items (Free s) t before.1.suits (λ z q. kind ∙ ap (λ (j : ℕ). Some j) (same_kind s z q));
+          }),
+          record {
+            at = λ x k e. elim (place x k e) [
+              | inl h ↦ ap g h.0 ∙ sym (at_continued v len t) ∙ ap w (sym last) ∙ ap w (sym h.1)
+              | inr h ↦ before.2.at x k h ∙ sym (a.below k (st.inside x k h))
+            ];
+          },
+        );
   }
     where
       same_kind : (s z : ℕ) → Free s ≡ Free z → s ≡ z

@@ -1,5 +1,5 @@
 -- The nodes of a type, form by form, as the calls that add them leave them.
-use Rattle.std.proofs.Common.{◌≡◌, ℕ, ◌<◌, Bool, true, false, ◌&&◌, IsTrue, ltb, List, length, Option, Some, None, slice_get, get_or, ap, refl, sym, ◌∙◌, subst, arith}
+use Rattle.std.proofs.Common.{◌≡◌, ℕ, ◌<◌, Bool, true, false, ◌&&◌, IsTrue, ltb, List, length, Some, None, slice_get, get_or, ap, refl, sym, ◌∙◌, subst, arith}
 use Rattle.std.proofs.lemmas.Bool.{ltb-true}
 use Rattle.psc_text.specs.declared.names.Ident.{Ident}
 use Rattle.psc_text.specs.declared.names.Label.{Label}

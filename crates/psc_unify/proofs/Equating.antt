@@ -1,22 +1,15 @@
 -- An equation more.
-use Rattle.std.proofs.Common.{◌≡◌, ℕ, ◌<◌, ◌≤◌, ◌+◌, List, [], ◌∷◌, ◌++◌, length, length-append, Option, Some, None, slice_get, get_or, ap, refl, sym, ◌∙◌, ◌⊎◌, subst, inl, inr, arith}
-use Rattle.std.proofs.lemmas.Option.{slice_get_within, slice_get-get_or, get_or_from_slice_get}
-use Rattle.psc_graph.specs.Tree.{Tree, Hole}
-use Rattle.psc_graph.specs.Tree as spec
-use Rattle.psc_graph.specs.General.{IsSolution, IsReady, IsMostGeneral, Grows, Agrees, kind_of}
-use Rattle.psc_graph.specs.declared.node.Node.{Node}
-use Rattle.psc_graph.specs.declared.node.Node.TheVariants.{Free}
-use Rattle.psc_graph.proofs.Writes.{after_push, before_push, pushed}
-use Rattle.psc_graph.proofs.PushLemmas.{continued, agrees_continued, at_continued, solves_with, suits_with}
+use Rattle.std.proofs.Common.{◌≡◌, ℕ, ◌<◌, List, [], ◌∷◌, length, Some, slice_get, sym, ◌∙◌}
+use Rattle.psc_graph.specs.Tree.{Tree}
+use Rattle.psc_graph.specs.General.{IsSolution, IsReady}
 use Rattle.psc_rows.specs.Steps.{Steps}
 use Rattle.psc_rows.specs.declared.graph.Graph.{Graph}
 use Rattle.psc_type.specs.declared.ty.Ty.{Ty}
 use Rattle.psc_unify.specs.declared.tables.Names.{Names}
 use Rattle.psc_unify.specs.Naming.{Naming}
-use Rattle.psc_unify.specs.Meaning.{tree}
-use Rattle.psc_unify.specs.Solved.{Fits, Continues, Adds, Values, Means, AllEqual, IsSolutionOf, IsMostGeneralOf, Stands, HasNone, ArePlain}
+use Rattle.psc_unify.specs.Solved.{Fits, Continues, Adds, Values, Means, IsSolutionOf, Stands, HasNone}
 use Rattle.psc_unify.proofs.Naming.{fits_before}
-use Rattle.psc_unify.proofs.Small.{lt_more, lt_same, lt_last, lt_next, not_below, nothing_below, none_some}
+use Rattle.psc_unify.proofs.Small.{lt_more}
 use Rattle.psc_unify.proofs.Standing.{values_agree}
 
 module _ (g0 g1 g2 : Graph) (n0 n1 n2 : Names) (unknowns kinds : List ℕ) (eqs : List (Ty × Ty)) (a b : Ty) (l r : ℕ)
@@ -54,9 +47,9 @@ module _ (g0 g1 g2 : Graph) (n0 n1 n2 : Names) (unknowns kinds : List ℕ) (eqs 
         sol = w2.2;
         values = v2;
         same =
-          one.value e g w2.0 (fits_before e n1 n2 c1 fits) (add1.grows.back w2.0 w2.2) v2
-          ∙ sol.sides.0
-          ∙ sym (two.value e g w2.0 fits w2.2 v2);
+            one.value e g w2.0 (fits_before e n1 n2 c1 fits) (add1.grows.back w2.0 w2.2) v2
+            ∙ sol.sides.0
+            ∙ sym (two.value e g w2.0 fits w2.2 v2);
       }
 
   pub stands_equal : (g3 : Graph) → Steps (λ v. v l ≡ v r) g2.nodes.items g3.nodes.items g3.kinds.items [] [] → Stands g3 n2 unknowns kinds ((a, b) ∷ eqs)
@@ -67,9 +60,10 @@ module _ (g0 g1 g2 : Graph) (n0 n1 n2 : Names) (unknowns kinds : List ℕ) (eqs 
     kind = λ x k s e f v sol. st.kind x k s e f v (add0.grows.back v (add1.grows.back v (steps.sound v sol tt).0));
     sound = λ e fits g v sol values.
         let s = steps.sound v sol tt in
-        let s1 = add1.grows.back v s.0 in
-        ( sym (one.value e g v (fits_before e n1 n2 c1 fits) s1 values) ∙ s.2 ∙ two.value e g v fits s.0 values
-        , st.sound e (fits0 e fits) g v (add0.grows.back v s1) values );
+        let s1 = add1.grows.back v s.0 in (
+          sym (one.value e g v (fits_before e n1 n2 c1 fits) s1 values) ∙ s.2 ∙ two.value e g v fits s.0 values,
+          st.sound e (fits0 e fits) g v (add0.grows.back v s1) values,
+        );
     complete = λ e fits g sol.
         let w = reaches e fits g sol in
         let next = steps.on w.v w.sol tt w.same in

@@ -1,5 +1,5 @@
 -- Tables that only grow: a naming that fits the longer ones fits the shorter.
-use Rattle.std.proofs.Common.{◌≡◌, ℕ, List, [], ◌∷◌, ◌++◌, Some, slice_get, refl}
+use Rattle.std.proofs.Common.{List, [], ◌∷◌, ◌++◌}
 use Rattle.psc_graph.proofs.Writes.{before_push}
 use Rattle.psc_unify.specs.declared.names.Constant.TheVariants.{Any}
 use Rattle.psc_unify.specs.declared.tables.Names.{Names}

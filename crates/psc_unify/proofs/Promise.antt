@@ -1,5 +1,5 @@
 -- A solver whose state stands at the equations is at a most general solution of them.
-use Rattle.std.proofs.Common.{◌≡◌, ℕ, ◌<◌, List, Option, None, Some, slice_get, get_or, length, sym, ap, refl, ◌∙◌, subst, true, false, arith}
+use Rattle.std.proofs.Common.{◌≡◌, ℕ, ◌<◌, List, None, Some, slice_get, get_or, length, sym, ap, refl, ◌∙◌, subst, true, false}
 use Rattle.std.proofs.lemmas.Option.{slice_get_within, slice_get-get_or}
 use Rattle.psc_graph.specs.Tree.{Tree}
 use Rattle.psc_graph.specs.General.{kind_of}
@@ -30,14 +30,15 @@ own_solution s kinds eqs st e fits g own = record {
 
 goes_on : (s : Solver) (kinds : List ℕ) (eqs : List (Ty × Ty)) (st : Stands s.state.graph s.state.names s.state.unknowns.items kinds eqs) (e : Naming) → Fits e s.state.names → (g : ℕ → Tree) → IsSolutionOf e kinds eqs g → (h : ℕ → Tree) × IsOwn s h × ((x k : ℕ) → slice_get kinds x ≡ Some k → h x ≡ g x)
 goes_on s kinds eqs st e fits g sol =
-    let w = st.complete e fits g sol in
-    ( valued s.state.unknowns.items w.0
-    , record { nodes = w.0; solves = w.1; same = λ n. refl }
-    , λ x k h.
-        let below : x < length s.state.unknowns.items = lt_same x (length kinds) (length s.state.unknowns.items) (slice_get_within kinds x k h) st.count in
-        let p = get_or s.state.unknowns.items x 0 in
-        let at : slice_get s.state.unknowns.items x ≡ Some p = slice_get-get_or s.state.unknowns.items x 0 below in
-        ap (λ o. w.0 (place_or x o)) at ∙ sym (w.2.at x p at) )
+    let w = st.complete e fits g sol in (
+      valued s.state.unknowns.items w.0,
+      record { nodes = w.0; solves = w.1; same = λ n. refl },
+      λ x k h.
+          let below : x < length s.state.unknowns.items = lt_same x (length kinds) (length s.state.unknowns.items) (slice_get_within kinds x k h) st.count in
+          let p = get_or s.state.unknowns.items x 0 in
+          let at : slice_get s.state.unknowns.items x ≡ Some p = slice_get-get_or s.state.unknowns.items x 0 below in
+          ap (λ o. w.0 (place_or x o)) at ∙ sym (w.2.at x p at),
+    )
 
 pub value_of : (s : Solver) (x p : ℕ) (t : Ty) → p ≡ place_of s.state.unknowns.items x → Reads s.state t p → IsValue s x t
 value_of s x p t is reads = record {

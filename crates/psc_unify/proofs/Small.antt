@@ -1,5 +1,5 @@
 -- Small facts on numbers and options, over plain variables.
-use Rattle.std.proofs.Common.{◌≡◌, ℕ, ◌<◌, ◌≤◌, ◌+◌, Option, Some, None, arith}
+use Rattle.std.proofs.Common.{◌≡◌, ℕ, ◌<◌, ◌≤◌, ◌+◌, Some, None, arith}
 
 pub lt_more : (k a b : ℕ) → k < a → a ≤ b → k < b
 lt_more k a b h g = omega arith

@@ -1,22 +1,15 @@
 -- The values are a most general solution of the equations.
-use Rattle.std.proofs.Common.{◌≡◌, ℕ, ◌<◌, ◌≤◌, ◌+◌, List, [], ◌∷◌, ◌++◌, length, length-append, Option, Some, None, slice_get, get_or, ap, refl, sym, ◌∙◌, ◌⊎◌, subst, inl, inr, arith}
+use Rattle.std.proofs.Common.{◌≡◌, ℕ, List, length, Some, slice_get, get_or, ap, ◌∙◌}
 use Rattle.std.proofs.lemmas.Option.{slice_get_within, slice_get-get_or, get_or_from_slice_get}
-use Rattle.psc_graph.specs.Tree.{Tree, Hole}
-use Rattle.psc_graph.specs.Tree as spec
-use Rattle.psc_graph.specs.General.{IsSolution, IsReady, IsMostGeneral, Grows, Agrees, kind_of}
+use Rattle.psc_graph.specs.Tree.{Tree}
+use Rattle.psc_graph.specs.General.{IsSolution, IsMostGeneral, kind_of}
 use Rattle.psc_graph.specs.declared.node.Node.{Node}
-use Rattle.psc_graph.specs.declared.node.Node.TheVariants.{Free}
-use Rattle.psc_graph.proofs.Writes.{after_push, before_push, pushed}
-use Rattle.psc_graph.proofs.PushLemmas.{continued, agrees_continued, at_continued, solves_with, suits_with}
-use Rattle.psc_rows.specs.Steps.{Steps}
 use Rattle.psc_rows.specs.declared.graph.Graph.{Graph}
 use Rattle.psc_type.specs.declared.ty.Ty.{Ty}
 use Rattle.psc_unify.specs.declared.tables.Names.{Names}
 use Rattle.psc_unify.specs.Naming.{Naming}
-use Rattle.psc_unify.specs.Meaning.{tree}
-use Rattle.psc_unify.specs.Solved.{Fits, Continues, Adds, Values, Means, AllEqual, IsSolutionOf, IsMostGeneralOf, Stands, HasNone, ArePlain}
-use Rattle.psc_unify.proofs.Naming.{fits_before}
-use Rattle.psc_unify.proofs.Small.{lt_more, lt_same, lt_last, lt_next, not_below, nothing_below, none_some}
+use Rattle.psc_unify.specs.Solved.{Fits, IsMostGeneralOf, Stands}
+use Rattle.psc_unify.proofs.Small.{lt_same}
 
 -- the values of the unknowns in the most general solution of the graph
 abbrev pub values_of : (ℕ → Tree) → List ℕ → ℕ → Tree
@@ -30,7 +23,7 @@ most_general graph names unknowns kinds eqs st e fits =
     let m = st.ready.value in
     let sol = most_solution m graph.nodes.items st.ready.most in
     let at : (x s : ℕ) → slice_get kinds x ≡ Some s → slice_get unknowns x ≡ Some (get_or unknowns x 0) =
-        λ x s h. slice_get-get_or unknowns x 0 (lt_same x (length kinds) (length unknowns) (slice_get_within kinds x s h) st.count) in
+    λ x s h. slice_get-get_or unknowns x 0 (lt_same x (length kinds) (length unknowns) (slice_get_within kinds x s h) st.count) in
     record {
       solution = record {
         kind = λ x s h. st.kind x (get_or unknowns x 0) s (at x s h) h m sol;

@@ -1,23 +1,13 @@
 -- What does not matter to where a solver stands.
-use Rattle.std.proofs.Common.{◌≡◌, ℕ, ◌<◌, ◌≤◌, ◌+◌, List, [], ◌∷◌, ◌++◌, length, length-append, Option, Some, None, slice_get, get_or, ap, refl, sym, ◌∙◌, ◌⊎◌, subst, inl, inr, arith}
-use Rattle.std.proofs.lemmas.Option.{slice_get_within, slice_get-get_or, get_or_from_slice_get}
-use Rattle.psc_graph.specs.Tree.{Tree, Hole}
-use Rattle.psc_graph.specs.Tree as spec
-use Rattle.psc_graph.specs.General.{IsSolution, IsReady, IsMostGeneral, Grows, Agrees, kind_of}
-use Rattle.psc_graph.specs.declared.node.Node.{Node}
-use Rattle.psc_graph.specs.declared.node.Node.TheVariants.{Free}
-use Rattle.psc_graph.proofs.Writes.{after_push, before_push, pushed}
-use Rattle.psc_graph.proofs.PushLemmas.{continued, agrees_continued, at_continued, solves_with, suits_with}
-use Rattle.psc_rows.specs.Steps.{Steps}
+use Rattle.std.proofs.Common.{◌≡◌, ℕ, ◌<◌, List, ◌∷◌, Some, slice_get, ap, sym, ◌∙◌, subst}
+use Rattle.psc_graph.specs.Tree.{Tree}
+use Rattle.psc_graph.specs.General.{Agrees}
 use Rattle.psc_rows.specs.declared.graph.Graph.{Graph}
 use Rattle.psc_type.specs.declared.ty.Ty.{Ty}
 use Rattle.psc_unify.specs.declared.tables.Names.{Names}
 use Rattle.psc_unify.specs.declared.state.State.{State}
-use Rattle.psc_unify.specs.Naming.{Naming}
-use Rattle.psc_unify.specs.Meaning.{tree}
-use Rattle.psc_unify.specs.Solved.{Fits, Continues, Adds, Values, Means, AllEqual, IsSolutionOf, IsMostGeneralOf, Stands, HasNone, ArePlain}
+use Rattle.psc_unify.specs.Solved.{Continues, Values, Stands, HasNone, ArePlain}
 use Rattle.psc_unify.proofs.Naming.{fits_before}
-use Rattle.psc_unify.proofs.Small.{lt_more, lt_same, lt_last, lt_next, not_below, nothing_below, none_some}
 
 pub values_agree : (g v w : ℕ → Tree) (n : ℕ) (unknowns : List ℕ) → ((x k : ℕ) → slice_get unknowns x ≡ Some k → k < n) → Agrees n v w → Values g v unknowns → Values g w unknowns
 values_agree g v w n unknowns inside a values = record { at = λ x k e. values.at x k e ∙ sym (a.below k (inside x k e)) }

@@ -1,22 +1,13 @@
 -- A solver without nodes.
-use Rattle.std.proofs.Common.{◌≡◌, ℕ, ◌<◌, ◌≤◌, ◌+◌, List, [], ◌∷◌, ◌++◌, length, length-append, Option, Some, None, slice_get, get_or, ap, refl, sym, ◌∙◌, ◌⊎◌, subst, inl, inr, arith}
-use Rattle.std.proofs.lemmas.Option.{slice_get_within, slice_get-get_or, get_or_from_slice_get}
+use Rattle.std.proofs.Common.{◌≡◌, ℕ, List, [], length, Option, Some, slice_get, ap, refl, sym, ◌∙◌}
 use Rattle.psc_graph.specs.Tree.{Tree, Hole}
-use Rattle.psc_graph.specs.Tree as spec
-use Rattle.psc_graph.specs.General.{IsSolution, IsReady, IsMostGeneral, Grows, Agrees, kind_of}
+use Rattle.psc_graph.specs.General.{IsSolution}
 use Rattle.psc_graph.specs.declared.node.Node.{Node}
 use Rattle.psc_graph.specs.declared.node.Node.TheVariants.{Free}
-use Rattle.psc_graph.proofs.Writes.{after_push, before_push, pushed}
-use Rattle.psc_graph.proofs.PushLemmas.{continued, agrees_continued, at_continued, solves_with, suits_with}
-use Rattle.psc_rows.specs.Steps.{Steps}
 use Rattle.psc_rows.specs.declared.graph.Graph.{Graph}
-use Rattle.psc_type.specs.declared.ty.Ty.{Ty}
 use Rattle.psc_unify.specs.declared.tables.Names.{Names}
-use Rattle.psc_unify.specs.Naming.{Naming}
-use Rattle.psc_unify.specs.Meaning.{tree}
-use Rattle.psc_unify.specs.Solved.{Fits, Continues, Adds, Values, Means, AllEqual, IsSolutionOf, IsMostGeneralOf, Stands, HasNone, ArePlain}
-use Rattle.psc_unify.proofs.Naming.{fits_before}
-use Rattle.psc_unify.proofs.Small.{lt_more, lt_same, lt_last, lt_next, not_below, nothing_below, none_some}
+use Rattle.psc_unify.specs.Solved.{Stands}
+use Rattle.psc_unify.proofs.Small.{nothing_below, none_some}
 
 -- without nodes every valuation is a solution
 pub stands_none : (graph : Graph) (names : Names) (unknowns : List ℕ) → graph.nodes.items ≡ [] → graph.kinds.items ≡ [] → unknowns ≡ [] → Stands graph names unknowns [] []

@@ -1,5 +1,5 @@
 -- What the tree of a type is, form by form.
-use Rattle.std.proofs.Common.{◌≡◌, ℕ, Bool, true, false, ◌&&◌, ltb, refl, rules, IsTrue}
+use Rattle.std.proofs.Common.{◌≡◌, ℕ, false, ◌&&◌, ltb, rules}
 use Rattle.psc_text.specs.declared.names.Ident.{Ident}
 use Rattle.psc_text.specs.declared.names.Label.{Label}
 use Rattle.psc_text.specs.declared.names.Qualified.{Qualified}

@@ -1,5 +1,5 @@
 -- The tree that a type is, where its unknowns have values.
-use Rattle.std.specs.Prelude.{◌≡◌, ℕ, Bool, true, false, ◌&&◌, ltb, Option}
+use Rattle.std.specs.Prelude.{ℕ, Bool, true, false, ◌&&◌, ltb}
 use Rattle.psc_graph.specs.Tree.{Tree, TAtom, TJoin, put}
 use Rattle.psc_graph.specs.General.{kind_of}
 use Rattle.psc_graph.specs.declared.node.Leaf.TheVariants.{NoArgument}

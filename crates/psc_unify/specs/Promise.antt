@@ -1,5 +1,5 @@
 -- What the calls of a solver promise of the equations so far.
-use Rattle.std.specs.Prelude.{◌≡◌, ℕ, List, Option, None, Some, slice_get}
+use Rattle.std.specs.Prelude.{◌≡◌, ℕ, List, None, Some, slice_get}
 use Rattle.psc_type.specs.declared.ty.Ty.{Ty}
 use Rattle.psc_graph.specs.Tree.{Tree}
 use Rattle.psc_unify.specs.declared.solver.Solver.{Solver}

@@ -71,7 +71,11 @@ impl Constants {
         ensures { IfSome result (λ k. slice_get self.now.rows.items number ≡ Some (constant.now, k)) }
     {
         match self.rows.get(number as usize) {
-            Some(row) => if row.0.same(constant) { Some(row.1) } else { None },
+            Some(row) => if row.0.same(constant) {
+                Some(row.1)
+            } else {
+                None
+            },
             None => None,
         }
     }

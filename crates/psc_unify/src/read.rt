@@ -121,17 +121,16 @@ fn read_join(
         return Err(NoMemory);
     }
     match state.names.kinds.result(kind_at(&state.graph, left)) {
-        Some(result) => if result == kind { Ok(Ty::App(one, two)) } else { Err(NoMemory) },
+        Some(result) => if result == kind {
+            Ok(Ty::App(one, two))
+        } else {
+            Err(NoMemory)
+        },
         None => Err(NoMemory),
     }
 }
 
-fn read_field(
-    state: &State,
-    label: u64,
-    one: Shared<Ty>,
-    two: Shared<Ty>,
-) -> Result<Ty, NoMemory>
+fn read_field(state: &State, label: u64, one: Shared<Ty>, two: Shared<Ty>) -> Result<Ty, NoMemory>
     ensures { IfOk result (λ ty. IsFieldOf state.now ty label one two) }
 {
     match state.names.labels.get(label) {

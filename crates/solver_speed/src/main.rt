@@ -13,7 +13,10 @@ use std::env;
 use std::time::Instant;
 
 fn constructor(alloc: Global, name: &str) -> anyhow::Result<Ty> {
-    Ok(Ty::Con(Qualified { module: None, name: Text::new(alloc, name)? }))
+    Ok(Ty::Con(Qualified {
+        module: None,
+        name: Text::new(alloc, name)?,
+    }))
 }
 
 fn apply(alloc: Global, function: Ty, argument: Ty) -> anyhow::Result<Ty> {
@@ -32,17 +35,37 @@ fn pair(alloc: Global, left: Ty, right: Ty) -> anyhow::Result<Ty> {
 }
 
 fn start(alloc: Global) -> anyhow::Result<Solver> {
-    let unary = Kind::Arrow(Shared::new(alloc, Kind::Star)?, Shared::new(alloc, Kind::Star)?);
-    let again = Kind::Arrow(Shared::new(alloc, Kind::Star)?, Shared::new(alloc, Kind::Star)?);
+    let unary = Kind::Arrow(
+        Shared::new(alloc, Kind::Star)?,
+        Shared::new(alloc, Kind::Star)?,
+    );
+    let again = Kind::Arrow(
+        Shared::new(alloc, Kind::Star)?,
+        Shared::new(alloc, Kind::Star)?,
+    );
     let binary = Kind::Arrow(Shared::new(alloc, Kind::Star)?, Shared::new(alloc, again)?);
     let mut kinds = Vec::new(alloc);
-    kinds.push(TypeKind { name: Qualified { module: None, name: Text::new(alloc, "Array")? }, kind: unary })?;
-    kinds.push(TypeKind { name: Qualified { module: None, name: Text::new(alloc, "Pair")? }, kind: binary })?;
+    kinds.push(TypeKind {
+        name: Qualified {
+            module: None,
+            name: Text::new(alloc, "Array")?,
+        },
+        kind: unary,
+    })?;
+    kinds.push(TypeKind {
+        name: Qualified {
+            module: None,
+            name: Text::new(alloc, "Pair")?,
+        },
+        kind: binary,
+    })?;
     Ok(Solver::start(alloc, kinds.as_slice())?)
 }
 
 fn no_scope(alloc: Global) -> anyhow::Result<Scope> {
-    Ok(Scope { rigid: SharedItems::from_vec(alloc, Vec::new(alloc))? })
+    Ok(Scope {
+        rigid: SharedItems::from_vec(alloc, Vec::new(alloc))?,
+    })
 }
 
 fn fresh(alloc: Global, solver: &mut Solver) -> anyhow::Result<u64> {
@@ -160,7 +183,11 @@ fn labels(alloc: Global, first: u32, tail: u64) -> anyhow::Result<Ty> {
     for index in 0..2_000_u32 {
         let number = first.wrapping_add(index) % 4_000;
         let label = Label(Text::from_string(format!(in alloc; "l{number}")?)?);
-        row = Ty::RowCons(label, Shared::new(alloc, constructor(alloc, "Int")?)?, Shared::new(alloc, row)?);
+        row = Ty::RowCons(
+            label,
+            Shared::new(alloc, constructor(alloc, "Int")?)?,
+            Shared::new(alloc, row)?,
+        );
     }
     Ok(row)
 }

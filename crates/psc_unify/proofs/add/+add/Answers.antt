@@ -3,7 +3,7 @@ use Rattle.std.proofs.lemmas.Option.{slice_get_within}
 use Rattle.psc_type.specs.declared.ty.Ty.TheVariants as ty
 use Rattle.psc_unify.specs.declared.names.Constant.TheVariants.{Con, Symbol, EmptyRow}
 use Rattle.psc_unify.proofs.Naming.{continues_none, continues_more}
-use Rattle.psc_unify.proofs.Adding.{adds_none, adds_more}
+use Rattle.psc_unify.proofs.Adding.{adds_more}
 use Rattle.psc_unify.proofs.Trees.{tree-Con, tree-Symbol, tree-RowNil}
 use Rattle.psc_unify.proofs.Cases.{var_case, constant_case, app_case, row_case}
 use Rattle.psc_unify.proofs.add.+add.Goals as goal

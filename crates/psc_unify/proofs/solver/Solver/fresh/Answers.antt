@@ -8,7 +8,8 @@ pub returns-clause-number : goal.returns-clause-number
 returns-clause-number c = λ kinds eqs h. c.in_ok-number.ensures.number ∙ sym h.stands.count
 
 pub returns-clause-solved : goal.returns-clause-solved
-returns-clause-solved c = λ kinds eqs h.
-    ( c.in_ok-kind.kind
-    , solved_by _ (kinds ++ c.in_ok-kind.kind ∷ []) eqs h.running
-    (c.in_ok-number.ensures.stands kinds eqs (stands_named _ _ _ _ kinds eqs (continues_more _ _ _ c.in_ok-kind.ensures c.in_ok-bound.ensures) h.stands)) )
+returns-clause-solved c = λ kinds eqs h. (
+  c.in_ok-kind.kind,
+  solved_by _ (kinds ++ c.in_ok-kind.kind ∷ []) eqs h.running
+      (c.in_ok-number.ensures.stands kinds eqs (stands_named _ _ _ _ kinds eqs (continues_more _ _ _ c.in_ok-kind.ensures c.in_ok-bound.ensures) h.stands)),
+)
