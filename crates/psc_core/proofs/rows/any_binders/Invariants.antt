@@ -3,4 +3,4 @@ use Rattle.psc_core.specs.Rows as spec
 use Rattle.psc_core.proofs.rows.any_binders.Given as goal
 
 abbrev pub invariant-loop-subject : goal.invariant-loop-subject
-invariant-loop-subject l = l.made ++ spec.any_binders l.at (drop l.subject-index l.subjects) ≡ spec.any_binders l.at l.subjects
+invariant-loop-subject l = l.made ++ spec.any_binders l.at (drop l._subject-index l.subjects) ≡ spec.any_binders l.at l.subjects
