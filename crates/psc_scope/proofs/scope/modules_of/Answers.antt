@@ -6,5 +6,5 @@ use Rattle.psc_scope.proofs.scope.modules_of.Goals as goal
 
 pub returns : goal.returns
 returns c =
-  let all : map deref c.loop-module.yielded ≡ c.args.modules.now.keys = search (rules, iter_end) in
-  c.loop-module.invariant ∙ all
+    let all : map deref c.loop-module.yielded ≡ c.args.modules.now.keys = search (rules, iter_end) in
+    c.loop-module.invariant ∙ all
