@@ -160,7 +160,7 @@ impl Pieces {
         alloc: Global,
         left: Left<'a>,
     ) -> Result<Option<Left<'a>>, Failed<'a>>
-        ensures place { IfErr result (λ failed. spec.IsNext failed.item.now left) }
+        ensures place { IfErr result (λ failed. spec.IsNext failed.item.now left.entry) }
     {
         match left {
             Left::Behind(rest) => match behind(rest) {
