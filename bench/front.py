@@ -13,7 +13,7 @@ import tempfile
 
 HERE = os.path.dirname(os.path.abspath(__file__))
 PROGRAM = os.path.join(HERE, "..", "crates", "front_speed", "out", "front_speed")
-EXAMPLES = os.path.join(HERE, "..", "crates", "parse_rows", "data", "examples")
+EXAMPLES = os.path.join(HERE, "..", "examples", "modules")
 
 
 def bodies():

@@ -2,9 +2,9 @@
 use Rattle.std.specs.Prelude.{ℕ, List, ◌++◌, codes, decimal, Bool, true, false}
 use Rattle.psc_text.specs.declared.names.Ident.{Ident}
 use Rattle.psc_text.specs.declared.span.Span.{Span}
-use Rattle.psc_core.specs.declared.ann.Ann.{Ann}
-use Rattle.psc_core.specs.declared.ann.Meta.{Meta}
-use Rattle.psc_core.specs.declared.ann.Meta.TheVariants.{NoMeta, IsConstructor, IsNewtype, IsForeign, IsWhere}
+use Rattle.psc_core_tree.specs.declared.ann.Ann.{Ann}
+use Rattle.psc_core_tree.specs.declared.ann.Meta.{Meta}
+use Rattle.psc_core_tree.specs.declared.ann.Meta.TheVariants.{NoMeta, IsConstructor, IsNewtype, IsForeign, IsWhere}
 use Rattle.psc_corefn.specs.Json.{idents}
 
 unfoldable pub place : ℕ → ℕ → List ℕ

@@ -2,12 +2,12 @@
 use Rattle.std.specs.Prelude.{ℕ, List, ◌++◌, map, codes}
 use Rattle.psc_text.specs.declared.names.Ident.{Ident}
 use Rattle.psc_text.specs.declared.names.Qualified.{Qualified}
-use Rattle.psc_core.specs.declared.ann.Ann.{Ann}
-use Rattle.psc_core.specs.declared.binder.CoreBinder.{CoreBinder}
-use Rattle.psc_core.specs.declared.binder.BinderLiteral.{BinderLiteral}
-use Rattle.psc_core.specs.declared.binder.BinderField.{BinderField}
-use Rattle.psc_core.specs.declared.binder.BinderLiteral.TheOpen.{BinderLiteral-F, CoreBinder-F, BinderField-F}
-use Rattle.psc_core.specs.declared.binder.BinderLiteral.TheFolds.{fold-BinderLiteral, fold-CoreBinder, fold-BinderField}
+use Rattle.psc_core_tree.specs.declared.ann.Ann.{Ann}
+use Rattle.psc_core_tree.specs.declared.binder.CoreBinder.{CoreBinder}
+use Rattle.psc_core_tree.specs.declared.binder.BinderLiteral.{BinderLiteral}
+use Rattle.psc_core_tree.specs.declared.binder.BinderField.{BinderField}
+use Rattle.psc_core_tree.specs.declared.binder.BinderLiteral.TheOpen.{BinderLiteral-F, CoreBinder-F, BinderField-F}
+use Rattle.psc_core_tree.specs.declared.binder.BinderLiteral.TheFolds.{fold-BinderLiteral, fold-CoreBinder, fold-BinderField}
 use Rattle.psc_corefn.specs.Json.{list, ident, qualified}
 use Rattle.psc_corefn.specs.Ann.{ann}
 use Rattle.psc_corefn.specs.Literal.{integer, text, character, boolean, array, object, pair}

@@ -3,17 +3,17 @@ use Rattle.std.specs.Prelude.{ℕ, List, [], ◌++◌, map, codes}
 use Rattle.psc_text.specs.declared.names.Ident.{Ident}
 use Rattle.psc_text.specs.declared.names.Label.{Label}
 use Rattle.psc_text.specs.declared.names.Qualified.{Qualified}
-use Rattle.psc_core.specs.declared.ann.Ann.{Ann}
-use Rattle.psc_core.specs.declared.expr.CoreBind.{CoreBind}
-use Rattle.psc_core.specs.declared.expr.CoreExpr.{CoreExpr}
-use Rattle.psc_core.specs.declared.expr.CoreOutcome.{CoreOutcome}
-use Rattle.psc_core.specs.declared.literal.Literal.{Literal}
-use Rattle.psc_core.specs.declared.expr.CoreAlternative.{CoreAlternative}
-use Rattle.psc_core.specs.declared.expr.CoreBinding.{CoreBinding}
-use Rattle.psc_core.specs.declared.expr.CoreGuarded.{CoreGuarded}
-use Rattle.psc_core.specs.declared.literal.Field.{Field}
-use Rattle.psc_core.specs.declared.expr.CoreBind.TheOpen.{CoreBind-F, CoreExpr-F, CoreOutcome-F, Literal-F, CoreAlternative-F, CoreBinding-F, CoreGuarded-F, Field-F}
-use Rattle.psc_core.specs.declared.expr.CoreBind.TheFolds.{fold-CoreBind, fold-CoreExpr, fold-CoreOutcome, fold-Literal, fold-CoreAlternative, fold-CoreBinding, fold-CoreGuarded, fold-Field}
+use Rattle.psc_core_tree.specs.declared.ann.Ann.{Ann}
+use Rattle.psc_core_tree.specs.declared.expr.CoreBind.{CoreBind}
+use Rattle.psc_core_tree.specs.declared.expr.CoreExpr.{CoreExpr}
+use Rattle.psc_core_tree.specs.declared.expr.CoreOutcome.{CoreOutcome}
+use Rattle.psc_core_tree.specs.declared.literal.Literal.{Literal}
+use Rattle.psc_core_tree.specs.declared.expr.CoreAlternative.{CoreAlternative}
+use Rattle.psc_core_tree.specs.declared.expr.CoreBinding.{CoreBinding}
+use Rattle.psc_core_tree.specs.declared.expr.CoreGuarded.{CoreGuarded}
+use Rattle.psc_core_tree.specs.declared.literal.Field.{Field}
+use Rattle.psc_core_tree.specs.declared.expr.CoreBind.TheOpen.{CoreBind-F, CoreExpr-F, CoreOutcome-F, Literal-F, CoreAlternative-F, CoreBinding-F, CoreGuarded-F, Field-F}
+use Rattle.psc_core_tree.specs.declared.expr.CoreBind.TheFolds.{fold-CoreBind, fold-CoreExpr, fold-CoreOutcome, fold-Literal, fold-CoreAlternative, fold-CoreBinding, fold-CoreGuarded, fold-Field}
 use Rattle.psc_corefn.specs.Json.{list, string, ident, idents, qualified}
 use Rattle.psc_corefn.specs.Ann.{ann}
 use Rattle.psc_corefn.specs.Literal.{integer, text, character, boolean, array, object, pair}

@@ -1,9 +1,9 @@
 -- Modules.
 use Rattle.std.specs.Prelude.{ℕ, List, ◌++◌, map, codes}
 use Rattle.psc_text.specs.declared.names.Ident.{Ident}
-use Rattle.psc_core.specs.declared.expr.CoreBind.{CoreBind}
-use Rattle.psc_core.specs.declared.module.CoreModule.{CoreModule}
-use Rattle.psc_core.specs.declared.module.ReExport.{ReExport}
+use Rattle.psc_core_tree.specs.declared.expr.CoreBind.{CoreBind}
+use Rattle.psc_core_tree.specs.declared.module.CoreModule.{CoreModule}
+use Rattle.psc_core_tree.specs.declared.module.ReExport.{ReExport}
 use Rattle.psc_corefn.specs.Json.{list, object, string, strings, idents, module_name}
 use Rattle.psc_corefn.specs.Ann.{span}
 use Rattle.psc_corefn.specs.Expr.{bind}

@@ -5,7 +5,7 @@ ghost use Rattle.std.specs.String.{string_bytes};
 ghost use Rattle.psc_corefn.specs.Ann as spec;
 
 use crate::append::{put, put_idents, put_number};
-use psc_core::{Ann, Meta};
+use psc_core_tree::{Ann, Meta};
 use psc_text::{Ident, NoMemory, Span};
 use std::alloc::Global;
 

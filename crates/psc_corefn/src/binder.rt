@@ -11,7 +11,7 @@ use crate::append::{put, put_comma, put_ident, put_label, put_qualified};
 use crate::literal::{
     put_boolean_literal, put_character_literal, put_integer_literal, put_text_literal,
 };
-use psc_core::{Ann, BinderField, BinderLiteral, CoreBinder};
+use psc_core_tree::{Ann, BinderField, BinderLiteral, CoreBinder};
 use psc_text::{Ident, Label, NoMemory, Qualified};
 use std::alloc::Global;
 

@@ -13,7 +13,7 @@ use crate::binder::put_binders;
 use crate::literal::{
     put_boolean_literal, put_character_literal, put_integer_literal, put_text_literal,
 };
-use psc_core::{
+use psc_core_tree::{
     Ann, CoreAlternative, CoreBind, CoreBinder, CoreBinding, CoreExpr, CoreGuarded, CoreOutcome,
     Field, Literal,
 };

@@ -9,7 +9,7 @@ ghost use Rattle.psc_corefn.specs.Json as json_text;
 use crate::ann::put_span;
 use crate::append::{put, put_comma, put_idents, put_module_name, put_strings, put_text};
 use crate::expr::put_binds;
-use psc_core::{CoreBind, CoreModule, ReExport};
+use psc_core_tree::{CoreBind, CoreModule, ReExport};
 use psc_text::{Ident, ModuleName, NoMemory, Text};
 use std::alloc::Global;
 

@@ -1,13 +1,18 @@
 //! Items one after another, and the first error among them.
 
+ghost use Rattle.std.specs.Prelude.{◌≡◌, IfSome, IfErr, Err};
+ghost use Rattle.psc_parse_decl.specs.declared.verdict.Wrong.{Wrong};
+ghost use Rattle.psc_parse_decl.specs.Item as spec;
+
 use crate::cut::{Left, cut_line, first_item, next_item};
 use crate::decls::decl;
 use crate::head::{Line, read_line};
 use crate::outside::has_outside_form;
-use crate::range::first_wide;
+use crate::range::{WideLiteral, first_wide};
 use crate::refs::import;
-use crate::verdict::{Wrong, error_at, refusal, wrong_of};
+use crate::verdict::{NESTING_LIMIT, Wrong, error_at, refusal, wrong_of};
 use psc_ast::{Decl, ImportTree, Module, ModuleAt};
+use psc_deep_forms::has_deep_form;
 use psc_error::{Code, PsError};
 use psc_lex::{Sign, lex_layout};
 use psc_nesting::deepest;
@@ -41,9 +46,29 @@ fn any_piece(alloc: Global, item: &[Sym]) -> Parsed<'_, Piece> {
     }
 }
 
-/// An item whose literals may be out of range yet.
-fn unchecked_piece(alloc: Global, item: &[Sym]) -> Result<Piece, Wrong> {
-    if let Some(code) = refusal(has_outside_form(item), deepest(alloc, item)?) {
+/// Whether a form that this compiler does not have stands in the item, as far as it is not for `any_piece` to find: one that
+/// tokens alone tell, or any where the item nests past the limit, since nothing descends into that.
+fn is_known_outside(alloc: Global, item: &[Sym], nesting: u32) -> Result<bool, NoMemory> {
+    if has_outside_form(item) {
+        return Ok(true);
+    }
+    if nesting > NESTING_LIMIT {
+        return has_deep_form(alloc, item);
+    }
+    Ok(false)
+}
+
+/// Why the item is not read at all, if so.
+fn refused(alloc: Global, item: &[Sym]) -> Result<Option<Code>, NoMemory> {
+    let nesting = deepest(alloc, item)?;
+    Ok(refusal(is_known_outside(alloc, item, nesting)?, nesting))
+}
+
+/// The item as the grammar reads it, where it is not refused before that. Its literals may be out of range yet.
+fn in_grammar(alloc: Global, item: &[Sym], refused: Option<Code>) -> Result<Piece, Wrong>
+    ensures { IfSome refused (λ code. result ≡ Err (Wrong.Code code)) }
+{
+    if let Some(code) = refused {
         return Err(Wrong::Code(code));
     }
     match any_piece(alloc, item) {
@@ -53,17 +78,23 @@ fn unchecked_piece(alloc: Global, item: &[Sym]) -> Result<Piece, Wrong> {
     }
 }
 
-/// An item, wherever it stands, or the first thing that is wrong with it.
-pub fn read_item(alloc: Global, item: &[Sym]) -> Result<Piece, Wrong> {
-    let found = unchecked_piece(alloc, item)?;
-    in_range(alloc, item, found)
+/// What was read of an item. Whatever else is wrong with it counts before a literal that is out of range.
+fn in_range(read: Result<Piece, Wrong>, wide: Option<WideLiteral>) -> Result<Piece, Wrong>
+    ensures { result ≡ spec.in_range read wide }
+{
+    match read {
+        Err(unread) => Err(unread),
+        Ok(found) => match wide {
+            Some(literal) => Err(Wrong::Wide(literal)),
+            None => Ok(found),
+        },
+    }
 }
 
-fn in_range(alloc: Global, item: &[Sym], found: Piece) -> Result<Piece, Wrong> {
-    match first_wide(alloc, item)? {
-        Some(literal) => Err(Wrong::Wide(literal)),
-        None => Ok(found),
-    }
+/// An item, wherever it stands, or the first thing that is wrong with it.
+pub fn read_item(alloc: Global, item: &[Sym]) -> Result<Piece, Wrong> {
+    let read = in_grammar(alloc, item, refused(alloc, item)?);
+    in_range(read, first_wide(alloc, item)?)
 }
 
 /// The items of a module so far.
@@ -102,14 +133,48 @@ impl Pieces {
         Ok(())
     }
 
+    /// What was read of the next item, where it may stand behind those so far.
+    fn in_place(&self, read: Result<Piece, Wrong>) -> Result<Piece, Wrong> {
+        match read {
+            Ok(found) => {
+                if self.may_follow(&found) {
+                    Ok(found)
+                } else {
+                    Err(Wrong::Code(Code::ErrorParsingModule))
+                }
+            }
+            Err(wrong) => Err(wrong),
+        }
+    }
+
     /// Reads one more item.
     fn read(&mut self, alloc: Global, item: &[Sym]) -> Result<(), Wrong> {
-        let found = unchecked_piece(alloc, item)?;
-        if !self.may_follow(&found) {
-            return Err(Wrong::Code(Code::ErrorParsingModule));
-        }
-        self.push(in_range(alloc, item, found)?)?;
+        let read = self.in_place(in_grammar(alloc, item, refused(alloc, item)?));
+        self.push(in_range(read, first_wide(alloc, item)?)?)?;
         Ok(())
+    }
+
+    /// Reads what comes next of the module's block. Where that is an item and something fails, it is that item.
+    fn read_next<'a>(
+        &mut self,
+        alloc: Global,
+        left: Left<'a>,
+    ) -> Result<Option<Left<'a>>, Failed<'a>>
+        ensures place { IfErr result (λ failed. spec.IsNext failed.item.now left.entry) }
+    {
+        match left {
+            Left::Behind(rest) => match behind(rest) {
+                Some((item, code)) => Err(Failed {
+                    wrong: Wrong::Code(code),
+                    item,
+                }),
+                None => Ok(None),
+            },
+            Left::Item(item, rest) => match self.read(alloc, item) {
+                Ok(()) => Ok(Some(next_item(rest))),
+                Err(wrong) => Err(Failed { wrong, item }),
+            },
+        }
     }
 }
 
@@ -131,26 +196,13 @@ pub struct Failed<'a> {
     pub item: &'a [Sym],
 }
 
-/// Reads all items of the module's block.
+/// Reads all items of the module's block, to its end or to the first item that fails.
 fn read_pieces<'a>(alloc: Global, body: &'a [Sym], pieces: &mut Pieces) -> Result<(), Failed<'a>> {
     let mut left = first_item(body);
     for _turn in 0..body.len() {
-        match left {
-            Left::Behind(rest) => {
-                return match behind(rest) {
-                    Some((item, code)) => Err(Failed {
-                        wrong: Wrong::Code(code),
-                        item,
-                    }),
-                    None => Ok(()),
-                };
-            }
-            Left::Item(item, rest) => {
-                if let Err(wrong) = pieces.read(alloc, item) {
-                    return Err(Failed { wrong, item });
-                }
-                left = next_item(rest);
-            }
+        match pieces.read_next(alloc, left)? {
+            Some(next) => left = next,
+            None => return Ok(()),
         }
     }
     Ok(())

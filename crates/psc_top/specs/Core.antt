@@ -5,14 +5,14 @@ use Rattle.std.specs.Ordering.{nat_cmp}
 use Rattle.std.specs.Cmp.Lexicographic.{slice_cmp}
 use Rattle.std.specs.BTreeSet.{insert_key}
 use Rattle.psc_text.specs.declared.span.Span.{Span}
-use Rattle.psc_core.specs.declared.ann.Ann.{Ann}
-use Rattle.psc_core.specs.declared.ann.Meta.TheVariants.{NoMeta}
-use Rattle.psc_core.specs.declared.literal.Literal.TheVariants as literal
-use Rattle.psc_core.specs.declared.expr.CoreExpr.TheVariants as expr
-use Rattle.psc_core.specs.declared.expr.CoreBind.{CoreBind}
-use Rattle.psc_core.specs.declared.expr.CoreBind.TheVariants as bind
-use Rattle.psc_core.specs.declared.expr.CoreBinding.{CoreBinding}
-use Rattle.psc_core.specs.declared.module.CoreModule.{CoreModule}
+use Rattle.psc_core_tree.specs.declared.ann.Ann.{Ann}
+use Rattle.psc_core_tree.specs.declared.ann.Meta.TheVariants.{NoMeta}
+use Rattle.psc_core_tree.specs.declared.literal.Literal.TheVariants as literal
+use Rattle.psc_core_tree.specs.declared.expr.CoreExpr.TheVariants as expr
+use Rattle.psc_core_tree.specs.declared.expr.CoreBind.{CoreBind}
+use Rattle.psc_core_tree.specs.declared.expr.CoreBind.TheVariants as bind
+use Rattle.psc_core_tree.specs.declared.expr.CoreBinding.{CoreBinding}
+use Rattle.psc_core_tree.specs.declared.module.CoreModule.{CoreModule}
 use Rattle.psc_top.specs.declared.line.Binding.{Binding}
 use Rattle.psc_top.specs.declared.source.Source.{Source}
 use Rattle.psc_top.specs.Printed.{printed}

@@ -6,7 +6,7 @@ ghost use Rattle.psc_top.specs.Core as spec;
 use crate::line::Binding;
 use crate::printed::printed;
 use crate::source::Source;
-use psc_core::{Ann, CoreBind, CoreBinding, CoreExpr, CoreModule, Literal};
+use psc_core_tree::{Ann, CoreBind, CoreBinding, CoreExpr, CoreModule, Literal};
 use psc_items::SharedItems;
 use psc_text::{NoMemory, Span, Text};
 use sqlite_items::Items;

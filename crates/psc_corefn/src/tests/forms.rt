@@ -2,7 +2,7 @@
 
 use crate::corefn_text;
 use crate::tests::trees::{HERE, Trees};
-use psc_core::{
+use psc_core_tree::{
     Ann, BinderField, BinderLiteral, CoreAlternative, CoreBind, CoreBinder, CoreExpr, CoreGuarded,
     CoreOutcome, Literal, Meta,
 };

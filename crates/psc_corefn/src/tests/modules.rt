@@ -2,7 +2,7 @@
 
 use crate::corefn_text;
 use crate::tests::trees::{HERE, Lists, Trees};
-use psc_core::{Ann, CoreBind, CoreBinding, CoreExpr, CoreModule, Literal, ReExport};
+use psc_core_tree::{Ann, CoreBind, CoreBinding, CoreExpr, CoreModule, Literal, ReExport};
 use psc_items::SharedItems;
 use psc_text::{Ident, ModuleName, NoMemory, Span, Text};
 use std::test::Fail;

@@ -1,6 +1,6 @@
 //! Trees for the tests. Every node that is not told otherwise stands from 1:2 to 3:4.
 
-use psc_core::{
+use psc_core_tree::{
     Ann, BinderLiteral, CoreAlternative, CoreBind, CoreBinder, CoreBinding, CoreExpr, CoreGuarded,
     CoreModule, CoreOutcome, Field, Literal, Meta, ReExport,
 };

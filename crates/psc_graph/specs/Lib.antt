@@ -1,0 +1,4 @@
+pub mod Tree
+pub mod Model
+pub mod General
+pub mod Explore

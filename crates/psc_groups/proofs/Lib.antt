@@ -1,0 +1,10 @@
+pub mod Lists
+pub mod Walks
+pub mod Enter
+pub mod Leave
+pub mod Close
+pub mod Steps
+pub mod Maps
+pub mod Placing
+pub mod Joining
+pub mod Declaring

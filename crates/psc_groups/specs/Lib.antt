@@ -1,0 +1,4 @@
+pub mod Graph
+pub mod Path
+pub mod Order
+pub mod Groups

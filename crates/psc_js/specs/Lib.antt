@@ -1,0 +1,4 @@
+pub mod Literal
+pub mod Place
+pub mod Expr
+pub mod Module

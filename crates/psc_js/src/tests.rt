@@ -1,0 +1,5 @@
+//! The JavaScript text of trees, whole, against texts that were written by hand.
+
+mod modules;
+mod notation;
+mod texts;

@@ -1,0 +1,6 @@
+pub mod Spelled
+pub mod Tops
+pub mod Hex
+pub mod Apart
+pub mod Made
+pub mod Aliases

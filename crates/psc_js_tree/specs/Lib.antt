@@ -1,0 +1,5 @@
+pub mod Scope
+pub mod Binder
+pub mod Expr
+pub mod Top
+pub mod Module

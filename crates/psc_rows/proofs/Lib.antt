@@ -1,0 +1,9 @@
+pub mod Exchange
+pub mod RowLemmas
+pub mod SortLemmas
+pub mod AlignLemmas
+pub mod TaskLemmas
+pub mod ListLemmas
+pub mod TailLemmas
+pub mod FormLemmas
+pub mod StepLemmas
