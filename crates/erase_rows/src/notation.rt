@@ -21,8 +21,9 @@
 
 use crate::fault::Fault;
 use psc_core::{
-    Ann, BinderLit, Evidence, LocalBind, LocalGroup, Meta, Typed, TypedBinder, TypedBinderField,
-    TypedBranch, TypedField, TypedLit, TypedOutcome, TypedRow, TypedTest,
+    Ann, BinderForm, BinderLit, Evidence, LocalBind, LocalGroup, Meta, Typed, TypedBinder,
+    TypedBinderField, TypedBranch, TypedField, TypedForm, TypedLit, TypedOutcome, TypedRow,
+    TypedTest,
 };
 use psc_items::{Shared, SharedItems};
 use psc_text::{Ident, Label, ModuleName, Qualified, Span, Text, read_module_name};
@@ -213,14 +214,13 @@ impl Stacks {
         self.evidence.pop().ok_or(Fault::Notation)
     }
 
-    fn put(&mut self, expr: Typed) -> Result<(), Fault> {
-        self.exprs.push(expr)?;
+    fn put(&mut self, ann: Ann, form: TypedForm) -> Result<(), Fault> {
+        self.exprs.push(Typed { ann, form })?;
         Ok(())
     }
 
     fn put_lit(&mut self, at: Span, value: TypedLit) -> Result<(), Fault> {
-        let ann = plain(at);
-        self.put(Typed::Lit { ann, value })
+        self.put(plain(at), TypedForm::Lit { value })
     }
 
     fn literal_number(&mut self, at: Span) -> Result<(), Fault> {
@@ -268,18 +268,14 @@ impl Stacks {
         let ann = self.known(at)?;
         let name = self.home_name()?;
         let parent = self.home_name()?;
-        self.put(Typed::Ctor { ann, name, parent })
+        self.put(ann, TypedForm::Ctor { name, parent })
     }
 
     fn get(&mut self, at: Span) -> Result<(), Fault> {
         let label = self.label()?;
         let subject = self.boxed()?;
         let ann = plain(at);
-        self.put(Typed::Get {
-            ann,
-            subject,
-            label,
-        })
+        self.put(ann, TypedForm::Get { subject, label })
     }
 
     fn update(&mut self, at: Span) -> Result<(), Fault> {
@@ -287,46 +283,42 @@ impl Stacks {
         let subject = self.boxed()?;
         let updates = take(self.alloc, &mut self.fields, count)?;
         let ann = plain(at);
-        self.put(Typed::Update {
-            ann,
-            subject,
-            updates,
-        })
+        self.put(ann, TypedForm::Update { subject, updates })
     }
 
     fn abs(&mut self, at: Span) -> Result<(), Fault> {
         let name = self.ident()?;
         let body = self.boxed()?;
-        self.put(Typed::Abs {
-            ann: plain(at),
-            name,
-            param: some_type(),
-            body,
-        })
+        self.put(
+            plain(at),
+            TypedForm::Abs {
+                name,
+                param: some_type(),
+                body,
+            },
+        )
     }
 
     fn app(&mut self, at: Span) -> Result<(), Fault> {
         let function = self.boxed()?;
         let argument = self.boxed()?;
-        self.put(Typed::App {
-            ann: plain(at),
-            function,
-            argument,
-        })
+        self.put(plain(at), TypedForm::App { function, argument })
     }
 
     fn local(&mut self, at: Span) -> Result<(), Fault> {
         let name = self.word()?;
-        self.put(Typed::Name {
-            ann: plain(at),
-            name: Qualified { module: None, name },
-        })
+        self.put(
+            plain(at),
+            TypedForm::Name {
+                name: Qualified { module: None, name },
+            },
+        )
     }
 
     fn own(&mut self, at: Span) -> Result<(), Fault> {
         let ann = self.known(at)?;
         let name = self.home_name()?;
-        self.put(Typed::Name { ann, name })
+        self.put(ann, TypedForm::Name { name })
     }
 
     fn of(&mut self, at: Span) -> Result<(), Fault> {
@@ -334,10 +326,12 @@ impl Stacks {
         let owner = self.word()?;
         let module = Some(module_name(self.alloc, owner.as_str())?);
         let name = self.word()?;
-        self.put(Typed::Name {
+        self.put(
             ann,
-            name: Qualified { module, name },
-        })
+            TypedForm::Name {
+                name: Qualified { module, name },
+            },
+        )
     }
 
     fn case(&mut self, at: Span) -> Result<(), Fault> {
@@ -345,12 +339,14 @@ impl Stacks {
         let rows = self.count()?;
         let subjects = take(self.alloc, &mut self.exprs, subjects)?;
         let rows = take(self.alloc, &mut self.rows, rows)?;
-        self.put(Typed::Case {
-            ann: plain(at),
-            subjects,
-            rows,
-            result: some_type(),
-        })
+        self.put(
+            plain(at),
+            TypedForm::Case {
+                subjects,
+                rows,
+                result: some_type(),
+            },
+        )
     }
 
     fn let_in(&mut self, at: Span) -> Result<(), Fault> {
@@ -358,27 +354,31 @@ impl Stacks {
         let count = self.count()?;
         let groups = take(self.alloc, &mut self.groups, count)?;
         let body = self.boxed()?;
-        self.put(Typed::Let { ann, groups, body })
+        self.put(ann, TypedForm::Let { groups, body })
     }
 
     fn ty_abs(&mut self, at: Span) -> Result<(), Fault> {
         let body = self.boxed()?;
         let name = Ident(Text::new(self.alloc, "a")?);
-        self.put(Typed::TyAbs {
-            ann: plain(at),
-            name,
-            kind: Kind::Star,
-            body,
-        })
+        self.put(
+            plain(at),
+            TypedForm::TyAbs {
+                name,
+                kind: Kind::Star,
+                body,
+            },
+        )
     }
 
     fn ty_app(&mut self, at: Span) -> Result<(), Fault> {
         let function = self.boxed()?;
-        self.put(Typed::TyApp {
-            ann: plain(at),
-            function,
-            argument: some_type(),
-        })
+        self.put(
+            plain(at),
+            TypedForm::TyApp {
+                function,
+                argument: some_type(),
+            },
+        )
     }
 
     fn some_constraint(&mut self) -> Result<Constraint, Fault> {
@@ -394,22 +394,20 @@ impl Stacks {
         let name = self.ident()?;
         let constraint = self.some_constraint()?;
         let body = self.boxed()?;
-        self.put(Typed::DictAbs {
-            ann: plain(at),
-            name,
-            constraint,
-            body,
-        })
+        self.put(
+            plain(at),
+            TypedForm::DictAbs {
+                name,
+                constraint,
+                body,
+            },
+        )
     }
 
     fn dict_app(&mut self, at: Span) -> Result<(), Fault> {
         let function = self.boxed()?;
         let evidence = self.one_evidence()?;
-        self.put(Typed::DictApp {
-            ann: plain(at),
-            function,
-            evidence,
-        })
+        self.put(plain(at), TypedForm::DictApp { function, evidence })
     }
 
     fn field(&mut self) -> Result<(), Fault> {
@@ -516,44 +514,29 @@ impl Stacks {
         self.put_evidence(Evidence::Inst(name, types, context))
     }
 
-    fn put_binder(&mut self, binder: TypedBinder) -> Result<(), Fault> {
-        self.binders.push(binder)?;
+    fn put_binder(&mut self, ann: Ann, form: BinderForm) -> Result<(), Fault> {
+        let at = some_type();
+        self.binders.push(TypedBinder { ann, at, form })?;
         Ok(())
     }
 
     fn any(&mut self, at: Span) -> Result<(), Fault> {
-        self.put_binder(TypedBinder::Wild {
-            ann: plain(at),
-            at: some_type(),
-        })
+        self.put_binder(plain(at), BinderForm::Wild)
     }
 
     fn var(&mut self, at: Span) -> Result<(), Fault> {
         let name = self.ident()?;
-        self.put_binder(TypedBinder::Var {
-            ann: plain(at),
-            name,
-            at: some_type(),
-        })
+        self.put_binder(plain(at), BinderForm::Var { name })
     }
 
     fn named(&mut self, at: Span) -> Result<(), Fault> {
         let name = self.ident()?;
         let inner = Boxed::new(self.alloc, self.binder()?)?;
-        self.put_binder(TypedBinder::Named {
-            ann: plain(at),
-            name,
-            inner,
-            at: some_type(),
-        })
+        self.put_binder(plain(at), BinderForm::Named { name, inner })
     }
 
     fn put_is(&mut self, at: Span, value: BinderLit) -> Result<(), Fault> {
-        self.put_binder(TypedBinder::Lit {
-            ann: plain(at),
-            value,
-            at: some_type(),
-        })
+        self.put_binder(plain(at), BinderForm::Lit { value })
     }
 
     fn is_number(&mut self, at: Span) -> Result<(), Fault> {
@@ -596,13 +579,14 @@ impl Stacks {
         let parent = self.home_name()?;
         let count = self.count()?;
         let parts = take(self.alloc, &mut self.binders, count)?;
-        self.put_binder(TypedBinder::Ctor {
+        self.put_binder(
             ann,
-            name,
-            parent,
-            parts,
-            at: some_type(),
-        })
+            BinderForm::Ctor {
+                name,
+                parent,
+                parts,
+            },
+        )
     }
 
     /// Makes an expression of what lies on the stacks.

@@ -25,12 +25,13 @@ use Rattle.psc_core.specs.declared.typed.LocalGroup.{LocalGroup}
 use Rattle.psc_core.specs.declared.typed.Typed.{Typed}
 use Rattle.psc_core.specs.declared.typed.TypedBranch.{TypedBranch}
 use Rattle.psc_core.specs.declared.typed.TypedField.{TypedField}
+use Rattle.psc_core.specs.declared.typed.TypedForm.{TypedForm}
 use Rattle.psc_core.specs.declared.typed.TypedLit.{TypedLit}
 use Rattle.psc_core.specs.declared.typed.TypedOutcome.{TypedOutcome}
 use Rattle.psc_core.specs.declared.typed.TypedRow.{TypedRow}
 use Rattle.psc_core.specs.declared.typed.TypedTest.{TypedTest}
-use Rattle.psc_core.specs.declared.typed.LocalGroup.TheOpen.{LocalGroup-F, Typed-F, TypedLit-F, TypedOutcome-F, TypedTest-F, LocalBind-F, TypedBranch-F, TypedField-F, TypedRow-F}
-use Rattle.psc_core.specs.declared.typed.LocalGroup.TheFolds.{fold-LocalGroup, fold-Typed, fold-TypedLit, fold-TypedOutcome, fold-TypedTest, fold-LocalBind, fold-TypedBranch, fold-TypedField, fold-TypedRow}
+use Rattle.psc_core.specs.declared.typed.LocalGroup.TheOpen.{LocalGroup-F, TypedForm-F, TypedLit-F, TypedOutcome-F, TypedTest-F, LocalBind-F, Typed-F, TypedBranch-F, TypedField-F, TypedRow-F}
+use Rattle.psc_core.specs.declared.typed.LocalGroup.TheFolds.{fold-LocalGroup, fold-TypedForm, fold-TypedLit, fold-TypedOutcome, fold-TypedTest, fold-LocalBind, fold-Typed, fold-TypedBranch, fold-TypedField, fold-TypedRow}
 use Rattle.psc_core.specs.Made.{plain, variable, true_binder}
 use Rattle.psc_core.specs.Evidence.{evidence, super_fields}
 use Rattle.psc_core.specs.Binder.{binder}
@@ -99,28 +100,31 @@ constructor IsWhere a c parent = data_constructor a c parent []
 abbrev pub lambda : Ann → Ident → CoreExpr → CoreExpr
 lambda a x e = core.Abs a x e
 
-abbrev pub group_step : LocalGroup-F (Erasing CoreBind) (Erasing CoreExpr) (Span → Erasing Literal) Given (Tried Test) (Erasing CoreBinding) (Tried Branch) (Erasing Field) Alternative → Erasing CoreBind
+abbrev pub group_step : LocalGroup-F (Erasing CoreBind) (Ann → Erasing CoreExpr) (Span → Erasing Literal) Given (Tried Test) (Erasing CoreBinding) (Erasing CoreExpr) (Tried Branch) (Erasing Field) Alternative → Erasing CoreBind
 group_step (LocalGroup-F.NonRec b) = made bind_of.NonRec b
 group_step (LocalGroup-F.Rec bs) = made bind_of.Rec (all bs)
 
 -- types go, and what is over a dictionary stays
-abbrev pub expr_step : Typed-F (Erasing CoreBind) (Erasing CoreExpr) (Span → Erasing Literal) Given (Tried Test) (Erasing CoreBinding) (Tried Branch) (Erasing Field) Alternative → Erasing CoreExpr
-expr_step (Typed-F.Lit a v) = made (core.Literal a) (v a.span)
-expr_step (Typed-F.Ctor a c parent) = done (constructor a.meta a c parent)
-expr_step (Typed-F.Get a e l) = made (λ subject. core.Accessor a subject l) e
-expr_step (Typed-F.Update a e us) = both (core.ObjectUpdate a) e (all us)
-expr_step (Typed-F.Abs a x t e) = made (lambda a x) e
-expr_step (Typed-F.App a f e) = both (core.App a) f e
-expr_step (Typed-F.Name a x) = done (core.Var a x)
-expr_step (Typed-F.Case a es rows t) = case a.span es rows
-expr_step (Typed-F.Let a gs e) = both (core.Let a) (all gs) e
-expr_step (Typed-F.TyAbs a x k e) = e
-expr_step (Typed-F.TyApp a f t) = f
-expr_step (Typed-F.DictAbs a x c e) = made (lambda a x) e
-expr_step (Typed-F.DictApp a f v) = made (λ function. core.App a function (evidence a.span v)) f
+abbrev pub form_step : TypedForm-F (Erasing CoreBind) (Ann → Erasing CoreExpr) (Span → Erasing Literal) Given (Tried Test) (Erasing CoreBinding) (Erasing CoreExpr) (Tried Branch) (Erasing Field) Alternative → Ann → Erasing CoreExpr
+form_step (TypedForm-F.Lit v) a = made (core.Literal a) (v a.span)
+form_step (TypedForm-F.Ctor c parent) a = done (constructor a.meta a c parent)
+form_step (TypedForm-F.Get e l) a = made (λ subject. core.Accessor a subject l) e
+form_step (TypedForm-F.Update e us) a = both (core.ObjectUpdate a) e (all us)
+form_step (TypedForm-F.Abs x t e) a = made (lambda a x) e
+form_step (TypedForm-F.App f e) a = both (core.App a) f e
+form_step (TypedForm-F.Name x) a = done (core.Var a x)
+form_step (TypedForm-F.Case es rows t) a = case a.span es rows
+form_step (TypedForm-F.Let gs e) a = both (core.Let a) (all gs) e
+form_step (TypedForm-F.TyAbs x k e) a = e
+form_step (TypedForm-F.TyApp f t) a = f
+form_step (TypedForm-F.DictAbs x c e) a = made (lambda a x) e
+form_step (TypedForm-F.DictApp f v) a = made (λ function. core.App a function (evidence a.span v)) f
+
+abbrev pub expr_step : Typed-F (Erasing CoreBind) (Ann → Erasing CoreExpr) (Span → Erasing Literal) Given (Tried Test) (Erasing CoreBinding) (Erasing CoreExpr) (Tried Branch) (Erasing Field) Alternative → Erasing CoreExpr
+expr_step e = e.form e.ann
 
 -- a dictionary is a record, whose superclasses stand before its members
-abbrev pub literal_step : TypedLit-F (Erasing CoreBind) (Erasing CoreExpr) (Span → Erasing Literal) Given (Tried Test) (Erasing CoreBinding) (Tried Branch) (Erasing Field) Alternative → Span → Erasing Literal
+abbrev pub literal_step : TypedLit-F (Erasing CoreBind) (Ann → Erasing CoreExpr) (Span → Erasing Literal) Given (Tried Test) (Erasing CoreBinding) (Erasing CoreExpr) (Tried Branch) (Erasing Field) Alternative → Span → Erasing Literal
 literal_step (TypedLit-F.Int n) at = done (literal_of.Int n)
 literal_step (TypedLit-F.Str s) at = done (literal_of.Str s)
 literal_step (TypedLit-F.Char c) at = done (literal_of.Char c)
@@ -129,54 +133,57 @@ literal_step (TypedLit-F.Array t es) at = made literal_of.Array (all es)
 literal_step (TypedLit-F.Object fs) at = made literal_of.Object (all fs)
 literal_step (TypedLit-F.Dict supers ms) at = made (λ members. literal_of.Object (super_fields at 0 (map (evidence at) supers) ++ members)) (all ms)
 
-abbrev pub outcome_step : TypedOutcome-F (Erasing CoreBind) (Erasing CoreExpr) (Span → Erasing Literal) Given (Tried Test) (Erasing CoreBinding) (Tried Branch) (Erasing Field) Alternative → Given
+abbrev pub outcome_step : TypedOutcome-F (Erasing CoreBind) (Ann → Erasing CoreExpr) (Span → Erasing Literal) Given (Tried Test) (Erasing CoreBinding) (Erasing CoreExpr) (Tried Branch) (Erasing Field) Alternative → Given
 outcome_step (TypedOutcome-F.Always e) = record { places = 0; erased = λ at ps. made (λ body. Plain (alternative ps body)) e }
 outcome_step (TypedOutcome-F.Guarded bs) = record { places = guarded_places bs; erased = λ at ps. made (row_of at (any_binds bs) ps) (all (map (tried_at at) bs)) }
 
 -- a boolean is of the form of `true`
-abbrev pub test_step : TypedTest-F (Erasing CoreBind) (Erasing CoreExpr) (Span → Erasing Literal) Given (Tried Test) (Erasing CoreBinding) (Tried Branch) (Erasing Field) Alternative → Tried Test
+abbrev pub test_step : TypedTest-F (Erasing CoreBind) (Ann → Erasing CoreExpr) (Span → Erasing Literal) Given (Tried Test) (Erasing CoreBinding) (Erasing CoreExpr) (Tried Branch) (Erasing Field) Alternative → Tried Test
 test_step (TypedTest-F.Holds e) = record { binds = false; erased = λ at. made (λ value. record { binder = true_binder at; value = value }) e }
 test_step (TypedTest-F.Binds p e) = record { binds = true; erased = λ at. made (λ value. record { binder = binder p; value = value }) e }
 
 -- a binding has a place alone
-abbrev pub bind_step : LocalBind-F (Erasing CoreBind) (Erasing CoreExpr) (Span → Erasing Literal) Given (Tried Test) (Erasing CoreBinding) (Tried Branch) (Erasing Field) Alternative → Erasing CoreBinding
+abbrev pub bind_step : LocalBind-F (Erasing CoreBind) (Ann → Erasing CoreExpr) (Span → Erasing Literal) Given (Tried Test) (Erasing CoreBinding) (Erasing CoreExpr) (Tried Branch) (Erasing Field) Alternative → Erasing CoreBinding
 bind_step b = made (λ body. record { ann = plain b.ann.span; name = b.name; body = body }) b.body
 
-abbrev pub branch_step : TypedBranch-F (Erasing CoreBind) (Erasing CoreExpr) (Span → Erasing Literal) Given (Tried Test) (Erasing CoreBinding) (Tried Branch) (Erasing Field) Alternative → Tried Branch
+abbrev pub branch_step : TypedBranch-F (Erasing CoreBind) (Ann → Erasing CoreExpr) (Span → Erasing Literal) Given (Tried Test) (Erasing CoreBinding) (Erasing CoreExpr) (Tried Branch) (Erasing Field) Alternative → Tried Branch
 branch_step b = record { binds = any_binds b.tests; erased = λ at. both (λ tests body. record { tests = tests; body = body }) (all (map (tried_at at) b.tests)) b.body }
 
-abbrev pub field_step : TypedField-F (Erasing CoreBind) (Erasing CoreExpr) (Span → Erasing Literal) Given (Tried Test) (Erasing CoreBinding) (Tried Branch) (Erasing Field) Alternative → Erasing Field
+abbrev pub field_step : TypedField-F (Erasing CoreBind) (Ann → Erasing CoreExpr) (Span → Erasing Literal) Given (Tried Test) (Erasing CoreBinding) (Erasing CoreExpr) (Tried Branch) (Erasing Field) Alternative → Erasing Field
 field_step f = made (λ value. record { label = f.label; value = value }) f.value
 
-abbrev pub row_step : TypedRow-F (Erasing CoreBind) (Erasing CoreExpr) (Span → Erasing Literal) Given (Tried Test) (Erasing CoreBinding) (Tried Branch) (Erasing Field) Alternative → Alternative
+abbrev pub row_step : TypedRow-F (Erasing CoreBind) (Ann → Erasing CoreExpr) (Span → Erasing Literal) Given (Tried Test) (Erasing CoreBinding) (Erasing CoreExpr) (Tried Branch) (Erasing Field) Alternative → Alternative
 row_step r = record { places = r.outcome.places; erased = λ at. r.outcome.erased at (map binder r.binders) }
 
 abbrev pub group : LocalGroup → Erasing CoreBind
-group = fold-LocalGroup (Erasing CoreBind) (Erasing CoreExpr) (Span → Erasing Literal) Given (Tried Test) (Erasing CoreBinding) (Tried Branch) (Erasing Field) Alternative group_step expr_step literal_step outcome_step test_step bind_step branch_step field_step row_step
+group = fold-LocalGroup (Erasing CoreBind) (Ann → Erasing CoreExpr) (Span → Erasing Literal) Given (Tried Test) (Erasing CoreBinding) (Erasing CoreExpr) (Tried Branch) (Erasing Field) Alternative group_step form_step literal_step outcome_step test_step bind_step expr_step branch_step field_step row_step
+
+abbrev pub form : TypedForm → Ann → Erasing CoreExpr
+form = fold-TypedForm (Erasing CoreBind) (Ann → Erasing CoreExpr) (Span → Erasing Literal) Given (Tried Test) (Erasing CoreBinding) (Erasing CoreExpr) (Tried Branch) (Erasing Field) Alternative group_step form_step literal_step outcome_step test_step bind_step expr_step branch_step field_step row_step
 
 abbrev pub expr : Typed → Erasing CoreExpr
-expr = fold-Typed (Erasing CoreBind) (Erasing CoreExpr) (Span → Erasing Literal) Given (Tried Test) (Erasing CoreBinding) (Tried Branch) (Erasing Field) Alternative group_step expr_step literal_step outcome_step test_step bind_step branch_step field_step row_step
+expr = fold-Typed (Erasing CoreBind) (Ann → Erasing CoreExpr) (Span → Erasing Literal) Given (Tried Test) (Erasing CoreBinding) (Erasing CoreExpr) (Tried Branch) (Erasing Field) Alternative group_step form_step literal_step outcome_step test_step bind_step expr_step branch_step field_step row_step
 
 abbrev pub literal : TypedLit → Span → Erasing Literal
-literal = fold-TypedLit (Erasing CoreBind) (Erasing CoreExpr) (Span → Erasing Literal) Given (Tried Test) (Erasing CoreBinding) (Tried Branch) (Erasing Field) Alternative group_step expr_step literal_step outcome_step test_step bind_step branch_step field_step row_step
+literal = fold-TypedLit (Erasing CoreBind) (Ann → Erasing CoreExpr) (Span → Erasing Literal) Given (Tried Test) (Erasing CoreBinding) (Erasing CoreExpr) (Tried Branch) (Erasing Field) Alternative group_step form_step literal_step outcome_step test_step bind_step expr_step branch_step field_step row_step
 
 abbrev pub outcome : TypedOutcome → Given
-outcome = fold-TypedOutcome (Erasing CoreBind) (Erasing CoreExpr) (Span → Erasing Literal) Given (Tried Test) (Erasing CoreBinding) (Tried Branch) (Erasing Field) Alternative group_step expr_step literal_step outcome_step test_step bind_step branch_step field_step row_step
+outcome = fold-TypedOutcome (Erasing CoreBind) (Ann → Erasing CoreExpr) (Span → Erasing Literal) Given (Tried Test) (Erasing CoreBinding) (Erasing CoreExpr) (Tried Branch) (Erasing Field) Alternative group_step form_step literal_step outcome_step test_step bind_step expr_step branch_step field_step row_step
 
 abbrev pub test : TypedTest → Tried Test
-test = fold-TypedTest (Erasing CoreBind) (Erasing CoreExpr) (Span → Erasing Literal) Given (Tried Test) (Erasing CoreBinding) (Tried Branch) (Erasing Field) Alternative group_step expr_step literal_step outcome_step test_step bind_step branch_step field_step row_step
+test = fold-TypedTest (Erasing CoreBind) (Ann → Erasing CoreExpr) (Span → Erasing Literal) Given (Tried Test) (Erasing CoreBinding) (Erasing CoreExpr) (Tried Branch) (Erasing Field) Alternative group_step form_step literal_step outcome_step test_step bind_step expr_step branch_step field_step row_step
 
 abbrev pub bind : LocalBind → Erasing CoreBinding
-bind = fold-LocalBind (Erasing CoreBind) (Erasing CoreExpr) (Span → Erasing Literal) Given (Tried Test) (Erasing CoreBinding) (Tried Branch) (Erasing Field) Alternative group_step expr_step literal_step outcome_step test_step bind_step branch_step field_step row_step
+bind = fold-LocalBind (Erasing CoreBind) (Ann → Erasing CoreExpr) (Span → Erasing Literal) Given (Tried Test) (Erasing CoreBinding) (Erasing CoreExpr) (Tried Branch) (Erasing Field) Alternative group_step form_step literal_step outcome_step test_step bind_step expr_step branch_step field_step row_step
 
 abbrev pub branch : TypedBranch → Tried Branch
-branch = fold-TypedBranch (Erasing CoreBind) (Erasing CoreExpr) (Span → Erasing Literal) Given (Tried Test) (Erasing CoreBinding) (Tried Branch) (Erasing Field) Alternative group_step expr_step literal_step outcome_step test_step bind_step branch_step field_step row_step
+branch = fold-TypedBranch (Erasing CoreBind) (Ann → Erasing CoreExpr) (Span → Erasing Literal) Given (Tried Test) (Erasing CoreBinding) (Erasing CoreExpr) (Tried Branch) (Erasing Field) Alternative group_step form_step literal_step outcome_step test_step bind_step expr_step branch_step field_step row_step
 
 abbrev pub field : TypedField → Erasing Field
-field = fold-TypedField (Erasing CoreBind) (Erasing CoreExpr) (Span → Erasing Literal) Given (Tried Test) (Erasing CoreBinding) (Tried Branch) (Erasing Field) Alternative group_step expr_step literal_step outcome_step test_step bind_step branch_step field_step row_step
+field = fold-TypedField (Erasing CoreBind) (Ann → Erasing CoreExpr) (Span → Erasing Literal) Given (Tried Test) (Erasing CoreBinding) (Erasing CoreExpr) (Tried Branch) (Erasing Field) Alternative group_step form_step literal_step outcome_step test_step bind_step expr_step branch_step field_step row_step
 
 abbrev pub row : TypedRow → Alternative
-row = fold-TypedRow (Erasing CoreBind) (Erasing CoreExpr) (Span → Erasing Literal) Given (Tried Test) (Erasing CoreBinding) (Tried Branch) (Erasing Field) Alternative group_step expr_step literal_step outcome_step test_step bind_step branch_step field_step row_step
+row = fold-TypedRow (Erasing CoreBind) (Ann → Erasing CoreExpr) (Span → Erasing Literal) Given (Tried Test) (Erasing CoreBinding) (Erasing CoreExpr) (Tried Branch) (Erasing Field) Alternative group_step form_step literal_step outcome_step test_step bind_step expr_step branch_step field_step row_step
 
 -- the numbers of a declaration begin with 0
 abbrev pub erase : Typed → CoreExpr

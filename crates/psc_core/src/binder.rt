@@ -3,8 +3,8 @@
 ghost use Rattle.std.specs.Prelude.{◌≡◌, IfOk, map};
 ghost use Rattle.psc_core.specs.Binder as spec;
 
-use crate::typed_binder::{BinderLit, TypedBinder, TypedBinderField};
-use psc_core_tree::{BinderField, BinderLiteral, CoreBinder};
+use crate::typed_binder::{BinderForm, BinderLit, TypedBinder, TypedBinderField};
+use psc_core_tree::{Ann, BinderField, BinderLiteral, CoreBinder};
 use psc_text::NoMemory;
 use sqlite_items::{Boxed, Items};
 use std::alloc::Global;
@@ -14,46 +14,37 @@ use std::alloc::Global;
 pub(crate) fn erase_binder(alloc: Global, binder: &TypedBinder) -> Result<CoreBinder, NoMemory>
     ensures { IfOk result (λ core. core ≡ spec.binder binder.now) }
 {
-    match binder {
-        TypedBinder::Wild { ann, at: _ } => Ok(CoreBinder::Null { ann: ann.clone()? }),
-        TypedBinder::Var { ann, name, at: _ } => {
+    erase_form(alloc, &binder.form, &binder.ann)
+}
+
+#[cycle(binder)]
+fn erase_form(alloc: Global, form: &BinderForm, ann: &Ann) -> Result<CoreBinder, NoMemory>
+    ensures { IfOk result (λ core. core ≡ spec.form form.now ann.now) }
+{
+    let ann = ann.clone()?;
+    match form {
+        BinderForm::Wild => Ok(CoreBinder::Null { ann }),
+        BinderForm::Var { name } => {
             let name = name.clone()?;
-            Ok(CoreBinder::Var {
-                ann: ann.clone()?,
-                name,
-            })
+            Ok(CoreBinder::Var { ann, name })
         }
-        TypedBinder::Named {
-            ann,
-            name,
-            inner,
-            at: _,
-        } => {
+        BinderForm::Named { name, inner } => {
             let name = name.clone()?;
             let binder = Boxed::new(alloc, erase_binder(alloc, inner.get())?)?;
-            Ok(CoreBinder::Named {
-                ann: ann.clone()?,
-                name,
-                binder,
-            })
+            Ok(CoreBinder::Named { ann, name, binder })
         }
-        TypedBinder::Lit { ann, value, at: _ } => {
+        BinderForm::Lit { value } => {
             let value = erase_binder_lit(alloc, value)?;
-            Ok(CoreBinder::Literal {
-                ann: ann.clone()?,
-                value,
-            })
+            Ok(CoreBinder::Literal { ann, value })
         }
-        TypedBinder::Ctor {
-            ann,
+        BinderForm::Ctor {
             name,
             parent,
             parts,
-            at: _,
         } => {
             let binders = erase_binders(alloc, parts.as_slice())?;
             Ok(CoreBinder::Constructor {
-                ann: ann.clone()?,
+                ann,
                 type_name: parent.clone()?,
                 constructor_name: name.clone()?,
                 binders,

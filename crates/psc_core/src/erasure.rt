@@ -14,8 +14,8 @@ use crate::numbers::Numbers;
 use crate::rows::{Branch, Row, Test, alternative, case_of, row_of};
 use crate::scan::{after_case, branches_bind};
 use crate::typed::{
-    LocalBind, LocalGroup, Typed, TypedBranch, TypedField, TypedLit, TypedOutcome, TypedRow,
-    TypedTest,
+    LocalBind, LocalGroup, Typed, TypedBranch, TypedField, TypedForm, TypedLit, TypedOutcome,
+    TypedRow, TypedTest,
 };
 use psc_core_tree::{Ann, CoreBind, CoreBinder, CoreBinding, CoreExpr, Field, Literal, Meta};
 use psc_items::SharedItems;
@@ -108,20 +108,29 @@ fn erase_expr(alloc: Global, typed: &Typed, numbers: &mut Numbers) -> Result<Cor
     ensures erased { IfOk result (λ core. core ≡ (spec.expr typed.now numbers.old).core) }
     ensures counted { IfOk result (λ _. numbers.new ≡ (spec.expr typed.now numbers.old).next) }
 {
-    match typed {
-        Typed::Lit { ann, value } => {
+    erase_form(alloc, &typed.form, &typed.ann, numbers)
+}
+
+#[cycle(erase)]
+fn erase_form(
+    alloc: Global,
+    form: &TypedForm,
+    ann: &Ann,
+    numbers: &mut Numbers,
+) -> Result<CoreExpr, NoMemory>
+    ensures erased { IfOk result (λ core. core ≡ (spec.form form.now ann.now numbers.old).core) }
+    ensures counted { IfOk result (λ _. numbers.new ≡ (spec.form form.now ann.now numbers.old).next) }
+{
+    match form {
+        TypedForm::Lit { value } => {
             let value = erase_lit(alloc, ann.span, value, numbers)?;
             Ok(CoreExpr::Literal {
                 ann: ann.clone()?,
                 value,
             })
         }
-        Typed::Ctor { ann, name, parent } => constructor(alloc, ann, name, parent),
-        Typed::Get {
-            ann,
-            subject,
-            label,
-        } => {
+        TypedForm::Ctor { name, parent } => constructor(alloc, ann, name, parent),
+        TypedForm::Get { subject, label } => {
             let subject = erase_boxed(alloc, subject.get(), numbers)?;
             let label = label.clone()?;
             Ok(CoreExpr::Accessor {
@@ -130,11 +139,7 @@ fn erase_expr(alloc: Global, typed: &Typed, numbers: &mut Numbers) -> Result<Cor
                 label,
             })
         }
-        Typed::Update {
-            ann,
-            subject,
-            updates,
-        } => {
+        TypedForm::Update { subject, updates } => {
             let subject = erase_boxed(alloc, subject.get(), numbers)?;
             let updates = erase_fields(alloc, updates.as_slice(), numbers)?;
             Ok(CoreExpr::ObjectUpdate {
@@ -143,8 +148,7 @@ fn erase_expr(alloc: Global, typed: &Typed, numbers: &mut Numbers) -> Result<Cor
                 updates,
             })
         }
-        Typed::Abs {
-            ann,
+        TypedForm::Abs {
             name,
             param: _,
             body,
@@ -152,11 +156,7 @@ fn erase_expr(alloc: Global, typed: &Typed, numbers: &mut Numbers) -> Result<Cor
             let body = erase_boxed(alloc, body.get(), numbers)?;
             Ok(lambda(ann, name, body)?)
         }
-        Typed::App {
-            ann,
-            function,
-            argument,
-        } => {
+        TypedForm::App { function, argument } => {
             let function = erase_boxed(alloc, function.get(), numbers)?;
             let argument = erase_boxed(alloc, argument.get(), numbers)?;
             Ok(CoreExpr::App {
@@ -165,15 +165,14 @@ fn erase_expr(alloc: Global, typed: &Typed, numbers: &mut Numbers) -> Result<Cor
                 argument,
             })
         }
-        Typed::Name { ann, name } => {
+        TypedForm::Name { name } => {
             let name = name.clone()?;
             Ok(CoreExpr::Var {
                 ann: ann.clone()?,
                 name,
             })
         }
-        Typed::Case {
-            ann,
+        TypedForm::Case {
             subjects,
             rows,
             result: _,
@@ -184,7 +183,7 @@ fn erase_expr(alloc: Global, typed: &Typed, numbers: &mut Numbers) -> Result<Cor
             let rows = erase_rows(alloc, ann.span, rows.as_slice(), numbers)?;
             Ok(case_of(alloc, ann.span, subjects, rows, first)?)
         }
-        Typed::Let { ann, groups, body } => {
+        TypedForm::Let { groups, body } => {
             let binds = erase_groups(alloc, groups.as_slice(), numbers)?;
             let body = erase_boxed(alloc, body.get(), numbers)?;
             Ok(CoreExpr::Let {
@@ -193,19 +192,16 @@ fn erase_expr(alloc: Global, typed: &Typed, numbers: &mut Numbers) -> Result<Cor
                 body,
             })
         }
-        Typed::TyAbs {
-            ann: _,
+        TypedForm::TyAbs {
             name: _,
             kind: _,
             body,
         } => erase_expr(alloc, body.get(), numbers),
-        Typed::TyApp {
-            ann: _,
+        TypedForm::TyApp {
             function,
             argument: _,
         } => erase_expr(alloc, function.get(), numbers),
-        Typed::DictAbs {
-            ann,
+        TypedForm::DictAbs {
             name,
             constraint: _,
             body,
@@ -213,11 +209,7 @@ fn erase_expr(alloc: Global, typed: &Typed, numbers: &mut Numbers) -> Result<Cor
             let body = erase_boxed(alloc, body.get(), numbers)?;
             Ok(lambda(ann, name, body)?)
         }
-        Typed::DictApp {
-            ann,
-            function,
-            evidence,
-        } => {
+        TypedForm::DictApp { function, evidence } => {
             let function = erase_boxed(alloc, function.get(), numbers)?;
             let argument = Boxed::new(alloc, dictionary(alloc, ann.span, evidence)?)?;
             Ok(CoreExpr::App {

@@ -25,7 +25,7 @@ pub use psc_core_tree::{
     CoreGuarded, CoreModule, CoreOutcome, Field, Literal, Meta, ReExport,
 };
 pub use typed::{
-    LocalBind, LocalGroup, Typed, TypedBranch, TypedField, TypedLit, TypedOutcome, TypedRow,
-    TypedTest,
+    LocalBind, LocalGroup, Typed, TypedBranch, TypedField, TypedForm, TypedLit, TypedOutcome,
+    TypedRow, TypedTest,
 };
-pub use typed_binder::{BinderLit, TypedBinder, TypedBinderField};
+pub use typed_binder::{BinderForm, BinderLit, TypedBinder, TypedBinderField};

@@ -13,78 +13,73 @@ use sqlite_items::{Boxed, Items};
 /// An expression.
 #[cycle(typed)]
 #[derive(Drop)]
-pub enum Typed {
+pub struct Typed {
+    pub ann: Ann,
+    pub form: TypedForm,
+}
+
+/// What an expression consists of.
+#[cycle(typed)]
+#[derive(Drop)]
+pub enum TypedForm {
     Lit {
-        ann: Ann,
         value: TypedLit,
     },
     /// The function that makes a value of the type `parent`. It stands only as a constructor's own
     /// binding; a use of a constructor is a `Name`.
     Ctor {
-        ann: Ann,
         name: Qualified,
         parent: Qualified,
     },
     Get {
-        ann: Ann,
         subject: Boxed<Typed>,
         label: Label,
     },
     /// The updates stand in the order of the source.
     Update {
-        ann: Ann,
         subject: Boxed<Typed>,
         updates: Items<TypedField>,
     },
     Abs {
-        ann: Ann,
         name: Ident,
         param: Ty,
         body: Boxed<Typed>,
     },
     App {
-        ann: Ann,
         function: Boxed<Typed>,
         argument: Boxed<Typed>,
     },
     /// A local name has no module.
     Name {
-        ann: Ann,
         name: Qualified,
     },
     /// Each row has a binder for each subject. `result` is the type of the whole.
     Case {
-        ann: Ann,
         subjects: Items<Typed>,
         rows: Items<TypedRow>,
         result: Ty,
     },
     Let {
-        ann: Ann,
         groups: Items<LocalGroup>,
         body: Boxed<Typed>,
     },
     /// A lambda over a type.
     TyAbs {
-        ann: Ann,
         name: Ident,
         kind: Kind,
         body: Boxed<Typed>,
     },
     TyApp {
-        ann: Ann,
         function: Boxed<Typed>,
         argument: Ty,
     },
     /// A lambda over the dictionary of a constraint.
     DictAbs {
-        ann: Ann,
         name: Ident,
         constraint: Constraint,
         body: Boxed<Typed>,
     },
     DictApp {
-        ann: Ann,
         function: Boxed<Typed>,
         evidence: Evidence,
     },

@@ -8,36 +8,34 @@ use sqlite_items::{Boxed, Items};
 /// A binder. `at` is the type of its place.
 #[cycle(typed_binder)]
 #[derive(Drop)]
-pub enum TypedBinder {
+pub struct TypedBinder {
+    pub ann: Ann,
+    pub at: Ty,
+    pub form: BinderForm,
+}
+
+/// What a binder consists of.
+#[cycle(typed_binder)]
+#[derive(Drop)]
+pub enum BinderForm {
     /// `_`
-    Wild {
-        ann: Ann,
-        at: Ty,
-    },
+    Wild,
     Var {
-        ann: Ann,
         name: Ident,
-        at: Ty,
     },
     /// `x@p`
     Named {
-        ann: Ann,
         name: Ident,
         inner: Boxed<TypedBinder>,
-        at: Ty,
     },
     Lit {
-        ann: Ann,
         value: BinderLit,
-        at: Ty,
     },
     /// A constructor of the type `parent`, and a binder for each of its fields.
     Ctor {
-        ann: Ann,
         name: Qualified,
         parent: Qualified,
         parts: Items<TypedBinder>,
-        at: Ty,
     },
 }
 
