@@ -1,5 +1,0 @@
-pub mod Canonical
-pub mod Closed
-pub mod Nameless
-pub mod Nodes
-pub mod Vars
