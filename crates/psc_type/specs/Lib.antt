@@ -1,0 +1,5 @@
+pub mod Canonical
+pub mod Closed
+pub mod Nameless
+pub mod Nodes
+pub mod Vars
