@@ -1,5 +1,5 @@
 -- Bounds of nodes: what a new node and a link leave of them.
-use Rattle.std.proofs.Common.{◌≡◌, ℕ, ◌<◌, ◌≤◌, cond, leb, true, false, List, [], ◌∷◌, ◌++◌, length, Some, slice_get, slice_set, ap, refl, sym, ◌∙◌, subst, inl, inr, arith}
+use Rattle.std.proofs.Common.{◌≡◌, ℕ, ◌≤◌, leb, false, List, [], ◌∷◌, ◌++◌, length, Some, slice_get, slice_set, ap, refl, sym, ◌∙◌, subst, inl, inr, arith}
 use Rattle.std.proofs.Math.Logic.{∥∥₁_map, ∥∥₁_map₂}
 use Rattle.std.proofs.lemmas.Bool.{le-leb}
 use Rattle.std.proofs.lemmas.Bool.Decides.{leb_tells}

@@ -24,7 +24,7 @@ invariant_of-self c =
     let old = ap (λ v. v.items) c.in_ok-remember.ensures.nodes in
     record {
       bounded = linked_write c.remember.new.self.nodes.items c.as_mut_slice.result.now c.bind.new.nodes _ _ _ _ _ _ _ c.args.unknown c.args.to c.as_mut_slice.ensures.value is c.in-Ok.ensures.written
-      (subst (λ n. ∥ IsApart c.args.unknown n c.args.to ∥₁) (sym old) (c.in_ok-is_part.ensures.apart (ap (λ (b : Bool). Ok b) c.if-branch.false)))
-      c.remember.new.self.bounded
-      (λ a all. c.link.ensures _ c.args.kind (ap length (sym c.as_slice-count.ensures.value)) (ap (λ n. slice_get n c.args.unknown) old ∙ c.requires.free) a all);
+          (subst (λ n. ∥ IsApart c.args.unknown n c.args.to ∥₁) (sym old) (c.in_ok-is_part.ensures.apart (ap (λ (b : Bool). Ok b) c.if-branch.false)))
+          c.remember.new.self.bounded
+          (λ a all. c.link.ensures _ c.args.kind (ap length (sym c.as_slice-count.ensures.value)) (ap (λ n. slice_get n c.args.unknown) old ∙ c.requires.free) a all);
     }
