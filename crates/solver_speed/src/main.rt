@@ -99,6 +99,19 @@ fn chain_down(alloc: Global) -> anyhow::Result<()> {
     Ok(())
 }
 
+/// `u(k+1) ~ Array u(k)`, 50,000 times.
+fn chain_up(alloc: Global) -> anyhow::Result<()> {
+    let mut solver = start(alloc)?;
+    let mut last = fresh(alloc, &mut solver)?;
+    for _ in 0..50_000 {
+        let next = fresh(alloc, &mut solver)?;
+        let value = array(alloc, Ty::Unknown(last))?;
+        equal(alloc, &mut solver, &Ty::Unknown(next), &value)?;
+        last = next;
+    }
+    Ok(())
+}
+
 /// `u(k) ~ u(k+1)`, 50,000 times, and then the first ~ Int.
 fn chain_flat(alloc: Global) -> anyhow::Result<()> {
     let mut solver = start(alloc)?;
@@ -220,29 +233,33 @@ fn solve_case(alloc: Global, number: u32) -> anyhow::Result<Option<&'static str>
     match number {
         0 => {
             chain_down(alloc)?;
-            Ok(Some("50,000 chained equations u ~ Array w"))
+            Ok(Some("50,000 chained equations u ~ Array w, from the outside in"))
         }
         1 => {
+            chain_up(alloc)?;
+            Ok(Some("50,000 chained equations u ~ Array w, from the inside out"))
+        }
+        2 => {
             chain_flat(alloc)?;
             Ok(Some("50,000 chained equations u ~ w"))
         }
-        2 => {
+        3 => {
             star(alloc)?;
             Ok(Some("50,000 equations of one unknown with others"))
         }
-        3 => {
+        4 => {
             large_twice(alloc)?;
             Ok(Some("two types of 65,535 nodes, equated 50,000 times"))
         }
-        4 => {
+        5 => {
             towers(alloc)?;
             Ok(Some("two towers with 2^60 tree nodes"))
         }
-        5 => {
+        6 => {
             nested(alloc)?;
             Ok(Some("2,000 nested bindings"))
         }
-        6 => {
+        7 => {
             rows(alloc)?;
             Ok(Some("rows of 2,000 labels"))
         }
