@@ -38,15 +38,19 @@ impl Row for InstanceRow {
     }
 
     fn read(alloc: Global, value: &Value) -> Result<Option<InstanceRow>, NoMemory> {
-        let names = InstanceNames {
-            chain: member(alloc, value, "chain")?,
-            class: member(alloc, value, "class")?,
-            index: member(alloc, value, "index")?,
-            name: member(alloc, value, "name")?,
-        };
+        let chain = member(alloc, value, "chain")?;
+        let class = member(alloc, value, "class")?;
+        let index = member(alloc, value, "index")?;
+        let name = member(alloc, value, "name")?;
         let context = list_member(alloc, value, "context")?;
         let head = list_member(alloc, value, "head")?;
         let vars = list_member(alloc, value, "vars")?;
+        let names = InstanceNames {
+            chain,
+            class,
+            index,
+            name,
+        };
         Ok(instance_of(names, context, head, vars))
     }
 }
