@@ -4,5 +4,6 @@ pub mod ClassRules
 pub mod Cuts
 pub mod Made
 pub mod Pops
+pub mod Runs
 pub mod Steps
 pub mod WordRules
