@@ -12,7 +12,7 @@ use Rattle.psc_type.specs.declared.ty.Ty.{Ty}
 use Rattle.psc_type.specs.declared.ty.Ty.TheVariants as ty
 use Rattle.psc_externs.specs.Names.{has_dot, is_name, is_module, is_true_name}
 use Rattle.psc_externs_words.specs.Words.{Words, word, first, text_in, qualified_text}
-use Rattle.psc_externs_words.specs.Reading.{Stack, Step, push, pop, cut, qualified, makes_kind, makes_type, given_to, constraint_of, step, named, run}
+use Rattle.psc_externs_words.specs.Reading.{Stack, Step, push, pop, cut, qualified, makes_kind, makes_type, given_to, constraint_of, step, plain_kind, made_kind, named, run}
 use Rattle.psc_externs_words.specs.declared.stack.Item.TheVariants.{OfKind, OfType}
 use Rattle.psc_externs_words.proofs.Pops.{pop-push}
 
@@ -56,23 +56,23 @@ unfolding step
 nil-step st = refl
 
 pub star-step : (st : Stack) → step (codes "T") st ≡ makes_kind kind.Star st
-unfolding step
+unfolding step plain_kind
 star-step st = refl
 
 pub constr-step : (st : Stack) → step (codes "C") st ≡ makes_kind kind.Constr st
-unfolding step
+unfolding step plain_kind
 constr-step st = refl
 
 pub sym-step : (st : Stack) → step (codes "S") st ≡ makes_kind kind.Sym st
-unfolding step
+unfolding step plain_kind
 sym-step st = refl
 
 pub row-step : (k : Kind) (st : Stack) → step (codes "R") (push (OfKind k) st) ≡ makes_kind (kind.RowOf k) st
-unfolding step
+unfolding step plain_kind made_kind
 row-step k st = rw (pop-push st (OfKind k))
 
 pub arrow-step : (k l : Kind) (st : Stack) → step (codes "F") (push (OfKind k) (push (OfKind l) st)) ≡ makes_kind (kind.Arrow k l) st
-unfolding step
+unfolding step plain_kind made_kind
 arrow-step k l st = rw (pop-push (push (OfKind l) st) (OfKind k)) (rw (pop-push st (OfKind l)))
 
 pub app-step : (f a : Ty) (st : Stack) → step (codes "app") (push (OfType f) (push (OfType a) st)) ≡ makes_type (ty.App f a) st
@@ -84,19 +84,19 @@ unfolding step
 given-step g b st = rw (pop-push (push (OfType b) st) (OfType g)) (rw (pop-push st (OfType b)))
 
 pub var-step : (name : Ident) (st : Stack) → step (codes "var " ++ name.0) st ≡ makes_type (ty.Var name) st
-unfolding step named
+unfolding step plain_kind made_kind named
 var-step name st = refl
 
 pub symbol-step : (text : List ℕ) (st : Stack) → step (codes "sym " ++ text) st ≡ makes_type (ty.Symbol text) st
-unfolding step named
+unfolding step plain_kind made_kind named
 symbol-step text st = refl
 
 pub forall-step : (name : Ident) (k : Kind) (b : Ty) (st : Stack) → step (codes "forall " ++ name.0) (push (OfKind k) (push (OfType b) st)) ≡ makes_type (ty.Forall name k b) st
-unfolding step named
+unfolding step plain_kind made_kind named
 forall-step name k b st = rw (pop-push (push (OfType b) st) (OfKind k)) (rw (pop-push st (OfType b)))
 
 pub label-step : (l : Label) (t r : Ty) (st : Stack) → step (codes "row " ++ l.0) (push (OfType t) (push (OfType r) st)) ≡ makes_type (ty.RowCons l t r) st
-unfolding step named
+unfolding step plain_kind made_kind named
 label-step l t r st = rw (pop-push (push (OfType r) st) (OfType t)) (rw (pop-push st (OfType r)))
 
 -- ---- a name behind its module
@@ -121,5 +121,5 @@ qualified-at (Some m) n h =
     rw (cut-at m n (no_dot n p.1)) (rw p.0)
 
 pub con-step : (q : Qualified) (st : Stack) → is_true_name q ≡ true → step (codes "con " ++ qualified_text q) st ≡ makes_type (ty.Con q) st
-unfolding step named
+unfolding step plain_kind made_kind named
 con-step q st h = rw (qualified-at q.«module» q.name h)

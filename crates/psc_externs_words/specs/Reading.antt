@@ -155,16 +155,20 @@ named w =
 abbrev pub same : List ℕ → List ℕ → Bool
 same a b = pointwise nat_eq a b
 
+-- a kind that has kinds as its parts, or a word that has a name
+unfoldable pub made_kind : List ℕ → Step
+made_kind w st = cond (same w (codes "R")) (row_kind st) (cond (same w (codes "F")) (arrow_kind st) (named w st))
+
+-- a kind without parts, or what `made_kind` says
+unfoldable pub plain_kind : List ℕ → Step
+plain_kind w st =
+    cond (same w (codes "T")) (makes_kind kind.Star st)
+    (cond (same w (codes "C")) (makes_kind kind.Constr st) (cond (same w (codes "S")) (makes_kind kind.Sym st) (made_kind w st)))
+
 unfoldable pub step : List ℕ → Step
 step w st =
     cond (same w (codes "nil")) (makes_type ty.RowNil st)
-    (cond (same w (codes "app")) (application st)
-    (cond (same w (codes "given")) (constrained st)
-    (cond (same w (codes "T")) (makes_kind kind.Star st)
-    (cond (same w (codes "C")) (makes_kind kind.Constr st)
-    (cond (same w (codes "S")) (makes_kind kind.Sym st)
-    (cond (same w (codes "R")) (row_kind st)
-    (cond (same w (codes "F")) (arrow_kind st) (named w st))))))))
+    (cond (same w (codes "app")) (application st) (cond (same w (codes "given")) (constrained st) (plain_kind w st)))
 
 -- ---- all words
 

@@ -212,6 +212,36 @@ fn named(alloc: Global, word: &str, stack: Vec<Item>) -> Result<Option<Vec<Item>
     }
 }
 
+/// The stack behind a word for a kind of kinds, or behind a word that has a name.
+#[tactic(auto, unfolding(crate::specs::Reading::made_kind))]
+fn made_kind(alloc: Global, word: &str, stack: Vec<Item>) -> Result<Option<Vec<Item>>, NoMemory>
+    ensures { IfOk result (λ o. option_map (λ v. v.items) o ≡ spec.made_kind word.now stack.items) }
+{
+    if word == "R" {
+        row_kind(alloc, stack)
+    } else if word == "F" {
+        arrow_kind(alloc, stack)
+    } else {
+        named(alloc, word, stack)
+    }
+}
+
+/// The stack behind a word for a kind without parts, or behind another word.
+#[tactic(auto, unfolding(crate::specs::Reading::plain_kind))]
+fn plain_kind(alloc: Global, word: &str, stack: Vec<Item>) -> Result<Option<Vec<Item>>, NoMemory>
+    ensures { IfOk result (λ o. option_map (λ v. v.items) o ≡ spec.plain_kind word.now stack.items) }
+{
+    if word == "T" {
+        push(stack, Item::OfKind(Kind::Star))
+    } else if word == "C" {
+        push(stack, Item::OfKind(Kind::Constr))
+    } else if word == "S" {
+        push(stack, Item::OfKind(Kind::Sym))
+    } else {
+        made_kind(alloc, word, stack)
+    }
+}
+
 /// The stack behind a word. None where the word's parts are not on the stack, or it is no word.
 #[tactic(auto, unfolding(crate::specs::Reading::step))]
 fn step(alloc: Global, word: &str, stack: Vec<Item>) -> Result<Option<Vec<Item>>, NoMemory>
@@ -223,18 +253,8 @@ fn step(alloc: Global, word: &str, stack: Vec<Item>) -> Result<Option<Vec<Item>>
         application(alloc, stack)
     } else if word == "given" {
         constrained(alloc, stack)
-    } else if word == "T" {
-        push(stack, Item::OfKind(Kind::Star))
-    } else if word == "C" {
-        push(stack, Item::OfKind(Kind::Constr))
-    } else if word == "S" {
-        push(stack, Item::OfKind(Kind::Sym))
-    } else if word == "R" {
-        row_kind(alloc, stack)
-    } else if word == "F" {
-        arrow_kind(alloc, stack)
     } else {
-        named(alloc, word, stack)
+        plain_kind(alloc, word, stack)
     }
 }
 
