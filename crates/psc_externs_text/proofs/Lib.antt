@@ -1,10 +1,3 @@
-pub mod Appended
-pub mod Back
-pub mod ClassRules
-pub mod Cuts
 pub mod Laid
-pub mod Lists
-pub mod Pops
+pub mod ReadBack
 pub mod RowsLaid
-pub mod Steps
-pub mod WordRules

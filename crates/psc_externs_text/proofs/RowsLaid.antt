@@ -39,10 +39,10 @@ use Rattle.psc_externs.specs.declared.rows.Space.TheVariants as space
 use Rattle.psc_externs.specs.declared.rows.SynonymRow.{SynonymRow}
 use Rattle.psc_externs.specs.declared.rows.TypeRow.{TypeRow}
 use Rattle.psc_externs.specs.declared.rows.ValueRow.{ValueRow}
-use Rattle.psc_externs_text.specs.Kept.{keeps_name, keeps_module, keeps_op, keeps_true_name, keeps_count, keeps_byte, keeps_kind, keeps_type, keeps_constraint, keeps_entity, keeps_param, keeps_dependency, keeps_class, keeps_constructor, keeps_export, keeps_fixity, keeps_instance, keeps_synonym, keeps_type_row, keeps_value, keeps_span, keeps_decl, keeps_use, is_interface, are_places}
-use Rattle.psc_externs_text.specs.Rows.{count, list_of, kind, type_of, constraint, true_name, true_name_text, assoc_text, op_space_text, space_text, param, dependency, class_row, constructor_row, export_row, fixity_row, instance_row, synonym_row, type_row, value_row, span, decl_row, use_row}
+use Rattle.psc_externs_rows.specs.Kept.{keeps_name, keeps_module, keeps_op, keeps_true_name, keeps_count, keeps_byte, keeps_kind, keeps_type, keeps_constraint, keeps_entity, keeps_param, keeps_dependency, keeps_class, keeps_constructor, keeps_export, keeps_fixity, keeps_instance, keeps_synonym, keeps_type_row, keeps_value, keeps_span, keeps_decl, keeps_use, is_interface, are_places}
+use Rattle.psc_externs_rows.specs.Rows.{count, list_of, kind, type_of, constraint, true_name, true_name_text, assoc_text, op_space_text, space_text, param, dependency, class_row, constructor_row, export_row, fixity_row, instance_row, synonym_row, type_row, value_row, span, decl_row, use_row}
 use Rattle.psc_externs_text.specs.Texts.{externs, places}
-use Rattle.psc_externs_text.specs.Words.{kind_words, words, constraint_words}
+use Rattle.psc_externs_words.specs.Words.{kind_words, words, constraint_words}
 use Rattle.psc_externs_text.proofs.Laid.{IsLaid, AreLaid}
 
 laid_items : {A : Type 0} (f : A → Data) (keeps : A → Bool) (n : ℕ) → ((x : A) → keeps x ≡ true → IsLaid n (f x)) → (xs : List A) → list_all keeps xs ≡ true → AreLaid n (items_of (map f xs))

@@ -1,6 +1,2 @@
-pub mod Kept
 pub mod Meant
-pub mod Reading
-pub mod Rows
 pub mod Texts
-pub mod Words

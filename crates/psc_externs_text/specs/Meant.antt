@@ -7,7 +7,7 @@ use Rattle.std.specs.List.Sorted.{IsStrictlySortedBy}
 use Rattle.psc_externs.specs.declared.externs.Externs.{Externs}
 use Rattle.psc_externs.specs.declared.outcome.Outputs.{Outputs}
 use Rattle.psc_externs.specs.declared.places.Places.{Places}
-use Rattle.psc_externs_text.specs.Kept.{is_interface, are_places}
+use Rattle.psc_externs_rows.specs.Kept.{is_interface, are_places}
 use Rattle.psc_externs_text.specs.Texts.{externs_text, places_text}
 
 -- the name of a module and the names of the modules that it imports, as its header tells them

@@ -4,7 +4,7 @@ use Rattle.serde_json.specs.Data.{Data, string, object, no_members, member}
 use Rattle.serde_json.specs.Written.{compact_text}
 use Rattle.psc_externs.specs.declared.externs.Externs.{Externs}
 use Rattle.psc_externs.specs.declared.places.Places.{Places}
-use Rattle.psc_externs_text.specs.Rows.{count, list_of, class_row, constructor_row, export_row, fixity_row, instance_row, synonym_row, type_row, value_row, decl_row, use_row}
+use Rattle.psc_externs_rows.specs.Rows.{count, list_of, class_row, constructor_row, export_row, fixity_row, instance_row, synonym_row, type_row, value_row, decl_row, use_row}
 
 -- the members in the order of their names
 abbrev pub externs_parts : Data → Data → Data → Data → Data → Data → List ℕ → Data → Data → Data → Data

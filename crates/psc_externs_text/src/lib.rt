@@ -6,23 +6,10 @@
 //! name, a blank, a byte behind it, or a number written otherwise is no such text.
 #![tactic(auto)]
 
-mod classes;
-mod exports;
-mod fixities;
-mod instances;
-mod kept;
 mod meaning;
-mod names;
-mod places;
-mod row;
-mod spaces;
-mod stack;
 #[cfg(test)]
 mod tests;
 mod text;
-mod types;
-mod words;
-mod words_read;
 
 pub use meaning::Meaning;
 pub use text::{read, read_places, write, write_places};

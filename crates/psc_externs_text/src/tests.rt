@@ -363,13 +363,117 @@ const TYPES: [&str; 14] = [
     r#"["given","app","app","con A.B.C","var a","app","var f","var b","var c"]"#,
 ];
 
+/// Lists of words that are kinds.
+const KINDS: [&str; 8] = [
+    r#"["T"]"#,
+    r#"["C"]"#,
+    r#"["S"]"#,
+    r#"["R","T"]"#,
+    r#"["R","R","S"]"#,
+    r#"["F","T","T"]"#,
+    r#"["F","F","T","C","F","S","R","T"]"#,
+    r#"["R","F","T","T"]"#,
+];
+
+/// Lists of words that are constraints.
+const CONSTRAINTS: [&str; 3] = [
+    r#"["con A.B.C"]"#,
+    r#"["app","app","con C.D","app","var f","var a","nil"]"#,
+    r#"["app","con C.D","given","app","con C.D","var a","var a"]"#,
+];
+
+/// The first of these lists of words that does not come back in the place of that one.
+fn first_lost<'a>(
+    alloc: Global,
+    old: &str,
+    lists: &[&'a str],
+) -> Result<Option<&'a str>, NoMemory> {
+    let text = joined(alloc, &EXTERNS)?;
+    for words in lists {
+        match edited(alloc, text.as_str(), old, *words)? {
+            Some(other) if comes_back(alloc, other.as_str())? => {}
+            _ => return Ok(Some(*words)),
+        }
+    }
+    Ok(None)
+}
+
 #[test]
-fn each_form_of_type_has_its_words(rt: HostRuntime) -> Result<(), Fail> {
+fn each_form_has_its_words(rt: HostRuntime) -> Result<(), Fail> {
+    let alloc = rt.alloc();
+    assert_eq!(rt; first_lost(alloc, r#"["con Prim.Int"]"#, &TYPES)?, None);
+    assert_eq!(rt;
+        first_lost(alloc, r#"["F","T","F","R","S","C"]"#, &KINDS)?,
+        None
+    );
+    assert_eq!(rt;
+        first_lost(alloc, r#"["con Data.Eq.Eq"]"#, &CONSTRAINTS)?,
+        None
+    );
+    Ok(())
+}
+
+/// The keys of interface files and of their rows.
+const KEYS: [&str; 32] = [
+    "classes",
+    "deps",
+    "members",
+    "params",
+    "supers",
+    "constructors",
+    "name",
+    "parent",
+    "type",
+    "exports",
+    "fixities",
+    "assoc",
+    "op",
+    "precedence",
+    "space",
+    "target",
+    "imports",
+    "instances",
+    "chain",
+    "class",
+    "context",
+    "head",
+    "index",
+    "vars",
+    "synonyms",
+    "body",
+    "types",
+    "newtype",
+    "kind",
+    "values",
+    "module",
+    "version",
+];
+
+/// The text with another name for the first mention of this key.
+fn renamed(alloc: Global, text: &str, key: &str) -> Result<Option<String>, NoMemory> {
+    let old = joined(alloc, &["\"", key, "\":"])?;
+    edited(alloc, text, old.as_str(), "\"x\":")
+}
+
+#[test]
+fn each_key_is_needed(rt: HostRuntime) -> Result<(), Fail> {
     let text = joined(rt.alloc(), &EXTERNS)?;
-    for words in TYPES {
-        match edited(rt.alloc(), text.as_str(), r#"["con Prim.Int"]"#, words)? {
-            Some(other) => assert!(rt; read(rt.alloc(), other.as_bytes())?.is_some(), "{words}"),
-            None => return Err(Fail::new(words)),
+    for key in KEYS {
+        match renamed(rt.alloc(), text.as_str(), key)? {
+            Some(other) => assert!(rt; read(rt.alloc(), other.as_bytes())?.is_none(), "{key}"),
+            None => return Err(Fail::new(key)),
+        }
+    }
+    let text = joined(rt.alloc(), &PLACES)?;
+    for key in [
+        "decls", "module", "name", "space", "span", "uses", "version",
+    ] {
+        match renamed(rt.alloc(), text.as_str(), key)? {
+            Some(other) => assert!(rt;
+                read_places(rt.alloc(), other.as_bytes())?.is_none(),
+                "{key}"
+            ),
+            None => return Err(Fail::new(key)),
         }
     }
     Ok(())

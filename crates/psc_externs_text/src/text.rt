@@ -7,15 +7,14 @@ ghost use Rattle.serde_json.specs.Read.{read as read_text};
 ghost use Rattle.serde_json.specs.View.{view};
 ghost use Rattle.psc_externs.specs.declared.externs.Externs.{Externs};
 ghost use Rattle.psc_externs.specs.declared.places.Places.{Places};
-ghost use Rattle.psc_externs_text.specs.Kept.{is_interface, are_places};
+ghost use Rattle.psc_externs_rows.specs.Kept.{is_interface, are_places};
 ghost use Rattle.psc_externs_text.specs.Texts as spec;
 
-use crate::kept::kept_module;
-use crate::row::{list_member, list_value, member};
 use psc_externs::{
     ClassRow, ConstructorRow, DeclRow, ExportRow, Externs, FixityRow, InstanceRow, Places,
     SynonymRow, TypeRow, UseRow, ValueRow,
 };
+use psc_externs_rows::{kept_module, list_member, list_value, member};
 use psc_items::SharedItems;
 use psc_text::{ModuleName, NoMemory, Text};
 use serde_json::{Value, json};

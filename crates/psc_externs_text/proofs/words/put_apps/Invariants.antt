@@ -1,6 +1,0 @@
-use Rattle.std.proofs.Common.{◌≡◌, ◌++◌, drop}
-use Rattle.psc_externs_text.specs.Words as spec
-use Rattle.psc_externs_text.proofs.words.put_apps.Given as goal
-
-abbrev pub invariant-loop-arg : goal.invariant-loop-arg
-invariant-loop-arg l = l.out.items ++ spec.apps (drop l.arg-index l.args) ≡ l.initial.out.items ++ spec.apps l.args

@@ -1,5 +1,0 @@
-use Rattle.psc_externs_text.proofs.Cuts.{behind-is}
-use Rattle.psc_externs_text.proofs.words_read.behind.Goals as goal
-
-pub returns : goal.returns
-returns c = behind-is c.args.front.now c.args.word.now c.strip_prefix.result c.strip_prefix.ensures.cases

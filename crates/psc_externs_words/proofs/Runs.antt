@@ -1,0 +1,27 @@
+-- Words from the last to the first, one more at each turn.
+use Rattle.std.proofs.Common.{◌≡◌, ℕ, zero, suc, ◌+◌, ◌-◌, ◌<◌, List, [], ◌∷◌, length, drop, get_or, drop-cons, Some, None, option_and_then, ap, ◌∙◌, arith}
+use Rattle.std.proofs.Math.Seq.{drop-length}
+use Rattle.psc_externs_words.specs.Reading.{Stack, run, step}
+use Rattle.psc_externs_words.specs.Words.{Words}
+
+pub run-start : (ws : Words) → run (drop (length ws - 0) ws) [] ≡ Some []
+unfolding run
+run-start ws =
+    let same : length ws - 0 ≡ length ws = omega arith in
+    ap (λ n. run (drop n ws) []) same ∙ ap (λ l. run l []) (drop-length ws)
+
+pub run-turn : (ws : Words) (turn : ℕ) (word : List ℕ) (st : Stack) → turn < length ws → run (drop (length ws - turn) ws) [] ≡ Some st → run (drop (length ws - (turn + 1)) ws) [] ≡ step (get_or ws (length ws - 1 - turn) word) st
+unfolding run
+run-turn ws turn word st h e =
+    let place : ℕ = length ws - 1 - turn in
+    let here : length ws - (turn + 1) ≡ place = omega arith in
+    let next : suc place ≡ length ws - turn = omega arith in
+    ap (λ n. run (drop n ws) []) here
+    ∙ ap (λ l. run l []) (drop-cons ws place word (omega arith))
+    ∙ ap (option_and_then (step (get_or ws place word))) (ap (λ n. run (drop n ws) []) next ∙ e)
+
+pub run-lost : (n : ℕ) (ws : Words) → run (drop n ws) [] ≡ None → run ws [] ≡ None
+unfolding run
+run-lost zero ws h = h
+run-lost (suc n) [] h = h
+run-lost (suc n) (w ∷ ws) h = ap (option_and_then (step w)) (run-lost n ws h)
