@@ -39,6 +39,7 @@ for c in crates:
     if not r: print('no proof-status for', c)
     for l in r:
         cells = [x.strip() for x in l.strip().strip('|').split('|')] if '`|' not in l and '\\|' not in l else None
+        if cells and cells[0].strip('`') not in crates: continue
         if cells:
             cells[0] = '`' + cells[0].strip('`') + '`'
             cells[1] = {'1': 'safe', '2': 'exact', '2 (exact)': 'exact'}.get(cells[1], cells[1].replace('1, and', 'safe, and'))
@@ -50,6 +51,7 @@ open(os.path.join(out, 'proof-status.md'), 'w').write('\n'.join(rows) + '\n')
 defs = [head('definitions.md')]
 for c in crates:
     body = S[c].get('definitions', '')
+    body = '\n'.join(l for l in body.split('\n') if not (m := re.search(r'(\w+)/specs/', l)) or m.group(1) in crates)
     if body.startswith('|') and '|---' not in body: body = '| Definition | In a sentence | File |\n|---|---|---|\n' + body
     if body: defs.append(f'## {c}\n\n' + body)
 open(os.path.join(out, 'definitions.md'), 'w').write('\n\n'.join(defs) + '\n')

@@ -7,3 +7,4 @@ pub mod Nodes
 pub mod Walk
 pub mod PushLemmas
 pub mod BindAll
+pub mod ShortLemmas

@@ -11,6 +11,7 @@ mod links;
 mod merging;
 mod node;
 mod occurs;
+mod shortening;
 mod work;
 
 pub use binding::bind;
@@ -19,4 +20,5 @@ pub use links::{find, node_at};
 pub use merging::merge;
 pub use node::{Former, Leaf, Node, Stop, Task};
 pub use occurs::{is_seen, note, see, take_note};
+pub use shortening::skip;
 pub use work::{add, is_same_former, is_same_leaf, take_last};

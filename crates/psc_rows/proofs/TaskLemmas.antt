@@ -156,6 +156,20 @@ steps_chain P old mid new before list start tasks work more task is s t = record
   inside = t.inside;
 }
 
+-- a step after steps, which leaves the tasks as they are
+pub steps_after : (P : (ℕ → Tree) → Type 0) (old mid new : List Node) (before list : List (Option ℕ)) (start tasks : List Task)
+    → Steps P old mid before start tasks → Steps (λ v. Unit {0}) mid new list tasks tasks → Steps P old new list start tasks
+steps_after P old mid new before list start tasks s t = record {
+  longer = let a = s.longer in let b = t.longer in omega arith;
+  sound = λ v sol e. let r = t.sound v sol e in s.sound v r.0 r.1;
+  on = λ v sol e p.
+      let w = s.on v sol e p in
+      let u = t.on w.0 w.2 w.3 tt in
+      (u.0, agrees_more (length old) (length mid) v w.0 u.0 s.longer w.1 u.1, u.2, u.3);
+  ready = t.ready;
+  inside = t.inside;
+}
+
 -- what is left of the tasks once the last was taken
 pub taken_inside : (n : ℕ) (tasks work : List Task) (task : Task) → tasks ≡ work ++ task ∷ [] → AreInside n tasks → AreInside n work × IsTaskInside n task
 taken_inside n tasks work task is a = let r = inside-parts n work (task ∷ []) (subst (AreInside n) is a) in (r.0, r.1.0)

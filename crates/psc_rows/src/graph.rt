@@ -6,7 +6,7 @@ ghost use Rattle.psc_graph.specs.General.{Grows, IsReady, IsSolution};
 ghost use Rattle.psc_graph.specs.declared.node.Task.{Task};
 ghost use Rattle.psc_rows.specs.Steps.{Steps, AreInside};
 
-use psc_graph::{Node, Stop, Task, add, bind, merge, node_at, push_node};
+use psc_graph::{Node, Stop, Task, add, bind, merge, node_at, push_node, skip};
 use std::alloc::Global;
 
 /// A node that was overwritten, with its place.
@@ -118,6 +118,19 @@ impl Graph {
         };
         self.remember(a, node)?;
         merge(self.nodes.as_mut_slice(), a, b);
+        Ok(())
+    }
+
+    /// Lets the link at a place lead on to where the link behind it leads.
+    pub fn skip(&mut self, at: usize) -> Result<(), Stop>
+        ensures steps { OnOk result ((work : List Task) → IsReady self.old.nodes.items self.old.kinds.items → AreInside (length self.old.nodes.items) work → Steps (λ v. Unit {0}) self.old.nodes.items self.new.nodes.items self.new.kinds.items work work) }
+        ensures clash { result ≡ Err Stop.Clash → ⊥ }
+    {
+        let Some(node) = node_at(self.nodes.as_slice(), at) else {
+            return Err(Stop::Memory);
+        };
+        self.remember(at, node)?;
+        skip(self.nodes.as_mut_slice(), at);
         Ok(())
     }
 

@@ -8,7 +8,7 @@ ghost use Rattle.psc_rows.specs.Steps.{Steps, AreInside, IsTaskInside};
 use crate::graph::{Graph, ask};
 use crate::rows::relate_rows;
 use psc_graph::{
-    Former, Leaf, Node, Stop, Task, add, find, is_same_former, is_same_leaf, take_last,
+    Former, Leaf, Node, Stop, Task, add, find, is_same_former, is_same_leaf, node_at, take_last,
 };
 use std::alloc::Global;
 
@@ -187,6 +187,40 @@ fn perform(alloc: Global, graph: &mut Graph, work: &mut Vec<Task>, task: Task) -
     }
 }
 
+/// Lets the links from a place on lead further, so that the next walk over them is shorter.
+fn shorten(graph: &mut Graph, at: usize) -> Result<(), Stop>
+    ensures steps { OnOk result ((work : List Task) → IsReady graph.old.nodes.items graph.old.kinds.items → AreInside (length graph.old.nodes.items) work → Steps (λ v. Unit {0}) graph.old.nodes.items graph.new.nodes.items graph.new.kinds.items work work) }
+    ensures clash { result ≡ Err Stop.Clash → ⊥ }
+{
+    let mut place = at;
+    for _ in 0..u64::MAX {
+        let Some(Node::Link(to)) = node_at(graph.nodes.as_slice(), place) else {
+            return Ok(());
+        };
+        let Some(Node::Link(_)) = node_at(graph.nodes.as_slice(), to) else {
+            return Ok(());
+        };
+        graph.skip(place)?;
+        place = to;
+    }
+    Err(Stop::Memory)
+}
+
+/// Shortens the links from both sides of the task that was added last.
+fn shorten_last(graph: &mut Graph, work: &[Task]) -> Result<(), Stop>
+    ensures steps { OnOk result ((tasks : List Task) → IsReady graph.old.nodes.items graph.old.kinds.items → AreInside (length graph.old.nodes.items) tasks → Steps (λ v. Unit {0}) graph.old.nodes.items graph.new.nodes.items graph.new.kinds.items tasks tasks) }
+    ensures clash { result ≡ Err Stop.Clash → ⊥ }
+{
+    match work.last().copied() {
+        Some(Task::Equal(a, b)) => {
+            shorten(graph, a)?;
+            shorten(graph, b)?;
+            Ok(())
+        }
+        _ => Ok(()),
+    }
+}
+
 /// Makes two nodes equal, exactly where a solution of the graph does.
 pub fn make_equal(alloc: Global, graph: &mut Graph, a: usize, b: usize) -> Result<(), Stop>
     ensures steps { OnOk result (IsReady graph.old.nodes.items graph.old.kinds.items → Steps (λ v. v a ≡ v b) graph.old.nodes.items graph.new.nodes.items graph.new.kinds.items [] []) }
@@ -195,6 +229,7 @@ pub fn make_equal(alloc: Global, graph: &mut Graph, a: usize, b: usize) -> Resul
     let mut work = Vec::new(alloc);
     ask(graph, &mut work, a, b)?;
     for _ in 0..u64::MAX {
+        shorten_last(graph, work.as_slice())?;
         let Some(task) = take_last(&mut work) else {
             return Ok(());
         };

@@ -21,29 +21,29 @@ is_free-Given name c b =
 
 pub ruleset is_free_rules = (is_free-Given)
 
-fresh-suc : (n : ℕ) (name : Ident) (whole : Ty) (env : List Replaced) → fresh (suc n) name whole env ≡ (if is_taken name whole env then fresh n (primed name) whole env else name)
+fresh-suc : (n : ℕ) (bound name : Ident) (whole : Ty) (env : List Replaced) → fresh (suc n) bound name whole env ≡ (if is_taken bound name whole env then fresh n bound (primed name) whole env else name)
 unfolding fresh
-fresh-suc n name whole env = refl
+fresh-suc n bound name whole env = refl
 
-pub fresh-none : (name : Ident) (whole : Ty) (env : List Replaced) → fresh 0 name whole env ≡ name
+pub fresh-none : (bound name : Ident) (whole : Ty) (env : List Replaced) → fresh 0 bound name whole env ≡ name
 unfolding fresh
-fresh-none name whole env = refl
+fresh-none bound name whole env = refl
 
-pub fresh-free : (n : ℕ) (name : Ident) (whole : Ty) (env : List Replaced) → is_taken name whole env ≡ false → fresh n name whole env ≡ name
-fresh-free zero name whole env h = fresh-none name whole env
-fresh-free (suc n) name whole env h = fresh-suc n name whole env ∙ ap (λ b. if b then fresh n (primed name) whole env else name) h
+pub fresh-free : (n : ℕ) (bound name : Ident) (whole : Ty) (env : List Replaced) → is_taken bound name whole env ≡ false → fresh n bound name whole env ≡ name
+fresh-free zero bound name whole env h = fresh-none bound name whole env
+fresh-free (suc n) bound name whole env h = fresh-suc n bound name whole env ∙ ap (λ b. if b then fresh n bound (primed name) whole env else name) h
 
-taken-suc : (n : ℕ) (name : Ident) (whole : Ty) (env : List Replaced) → is_taken name whole env ≡ true → fresh (suc n) name whole env ≡ fresh n (primed name) whole env
-taken-suc n name whole env h = fresh-suc n name whole env ∙ ap (λ b. if b then fresh n (primed name) whole env else name) h
+taken-suc : (n : ℕ) (bound name : Ident) (whole : Ty) (env : List Replaced) → is_taken bound name whole env ≡ true → fresh (suc n) bound name whole env ≡ fresh n bound (primed name) whole env
+taken-suc n bound name whole env h = fresh-suc n bound name whole env ∙ ap (λ b. if b then fresh n bound (primed name) whole env else name) h
 
-pub fresh-taken : (n : ℕ) (name : Ident) (whole : Ty) (env : List Replaced) → n ≢ 0 → is_taken name whole env ≡ true → fresh n name whole env ≡ fresh (n - 1) (primed name) whole env
-fresh-taken n name whole env some h =
+pub fresh-taken : (n : ℕ) (bound name : Ident) (whole : Ty) (env : List Replaced) → n ≢ 0 → is_taken bound name whole env ≡ true → fresh n bound name whole env ≡ fresh (n - 1) bound (primed name) whole env
+fresh-taken n bound name whole env some h =
     let e : n ≡ suc (n - 1) = omega arith in
-    ap (λ k. fresh k name whole env) e ∙ taken-suc (n - 1) name whole env h
+    ap (λ k. fresh k bound name whole env) e ∙ taken-suc (n - 1) bound name whole env h
 
 pub ruleset fresh_rules = (fresh-none, fresh-taken, fresh-free)
 
-pub fresh_name-is : (name : Ident) (whole : Ty) (env : List Replaced) → fresh 18446744073709551615 name whole env ≡ fresh_name name whole env
+pub fresh_name-is : (name : Ident) (whole : Ty) (env : List Replaced) → fresh 18446744073709551615 name name whole env ≡ fresh_name name whole env
 unfolding fresh_name
 fresh_name-is name whole env = refl
 

@@ -46,21 +46,26 @@ primed x = record { 0 = x.0 ++ 39 ∷ [] }
 abbrev pub is_replaced : List Replaced → Ident → Bool
 is_replaced env name = list_any (λ one. is_same one.name name) env
 
--- whether a `forall` of the name could bind a variable that is free in what is put in, or in the type and stays
-abbrev pub is_taken : Ident → Ty → List Replaced → Bool
-is_taken name whole env = list_any (λ one. is_free name one.by) env || (is_free name whole && not (is_replaced env name))
+-- whether a type that is put in below a `forall` of bound has the name free; for bound itself nothing is put in there
+abbrev pub catches : Ident → Ident → Replaced → Bool
+catches bound name one = not (is_same one.name bound) && is_free name one.by
+
+-- whether a `forall` that is written with bound cannot have the name: it would bind a variable that is free in what is
+-- put in, or, where it is another name, one that is free in the type and stays
+abbrev pub is_taken : Ident → Ident → Ty → List Replaced → Bool
+is_taken bound name whole env = list_any (catches bound name) env || (not (is_same name bound) && is_free name whole && not (is_replaced env name))
 
 -- the name with as many primes as it takes
-unfoldable pub fresh : ℕ → Ident → Ty → List Replaced → Ident
-fresh zero name whole env = name
-fresh (suc tries) name whole env = if is_taken name whole env then fresh tries (primed name) whole env else name
+unfoldable pub fresh : ℕ → Ident → Ident → Ty → List Replaced → Ident
+fresh zero bound name whole env = name
+fresh (suc tries) bound name whole env = if is_taken bound name whole env then fresh tries bound (primed name) whole env else name
 
 abbrev pub renamed : Ident → Ident → Replaced
 renamed name other = record { name = name; by = ty.Var other }
 
 -- more primes than a type has names
 unfoldable pub fresh_name : Ident → Ty → List Replaced → Ident
-fresh_name name whole env = fresh 18446744073709551615 name whole env
+fresh_name name whole env = fresh 18446744073709551615 name name whole env
 
 abbrev pub bound : Ty → Ident → List Replaced → List Replaced
 bound whole name env = env ++ renamed name (fresh_name name whole env) ∷ []

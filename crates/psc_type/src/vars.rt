@@ -91,11 +91,12 @@ fn at_var(env: &[Replaced], name: &Ident) -> Result<Ty, NoMemory>
     Ok(ty)
 }
 
-fn is_free_in_one(env: &[Replaced], name: &Ident) -> bool
-    ensures { result ≡ list_any (λ one. spec.is_free name.now one.by) env.now }
+/// Whether the name is free in a type that is put in below a `forall` of `bound`.
+fn is_caught(env: &[Replaced], bound: &Ident, name: &Ident) -> bool
+    ensures { result ≡ list_any (spec.catches bound.now name.now) env.now }
 {
     for one in env {
-        if is_free(name, &one.by) {
+        if one.name != *bound && is_free(name, &one.by) {
             return true;
         }
     }
@@ -121,10 +122,12 @@ fn is_replaced(env: &[Replaced], name: &Ident) -> bool
     false
 }
 
-fn is_taken(name: &Ident, whole: &Ty, env: &[Replaced]) -> bool
-    ensures { result ≡ spec.is_taken name.now whole.now env.now }
+/// Whether a `forall` that is written with `bound` cannot have the name.
+fn is_taken(bound: &Ident, name: &Ident, whole: &Ty, env: &[Replaced]) -> bool
+    ensures { result ≡ spec.is_taken bound.now name.now whole.now env.now }
 {
-    is_free_in_one(env, name) || (is_free(name, whole) && !is_replaced(env, name))
+    is_caught(env, bound, name)
+        || (name != bound && is_free(name, whole) && !is_replaced(env, name))
 }
 
 /// The name with as many primes as it takes that it is free neither in what is put in nor in what stays.
@@ -132,15 +135,16 @@ fn is_taken(name: &Ident, whole: &Ty, env: &[Replaced]) -> bool
 fn fresh(
     alloc: Global,
     tries: u64,
+    bound: &Ident,
     name: &Ident,
     whole: &Ty,
     env: &[Replaced],
 ) -> Result<Ident, NoMemory>
-    ensures { IfOk result (λ x. x ≡ spec.fresh tries name.now whole.now env.now) }
+    ensures { IfOk result (λ x. x ≡ spec.fresh tries bound.now name.now whole.now env.now) }
 {
-    if tries != 0 && is_taken(name, whole, env) {
+    if tries != 0 && is_taken(bound, name, whole, env) {
         let name = primed(alloc, name)?;
-        fresh(alloc, tries - 1, &name, whole, env)
+        fresh(alloc, tries - 1, bound, &name, whole, env)
     } else {
         Ok(name.clone()?)
     }
@@ -150,7 +154,7 @@ fn fresh(
 fn fresh_name(alloc: Global, name: &Ident, whole: &Ty, env: &[Replaced]) -> Result<Ident, NoMemory>
     ensures { IfOk result (λ x. x ≡ spec.fresh_name name.now whole.now env.now) }
 {
-    fresh(alloc, u64::MAX, name, whole, env)
+    fresh(alloc, u64::MAX, name, name, whole, env)
 }
 
 fn renamed(name: &Ident, other: &Ident) -> Result<Replaced, NoMemory>

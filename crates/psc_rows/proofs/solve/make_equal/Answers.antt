@@ -1,7 +1,7 @@
 use Rattle.std.proofs.Common.{ap, subst, ◌∙◌, ◌≡◌, ◌++◌, ◌∷◌, []}
 use Rattle.psc_rows.specs.Steps.{Steps}
 use Rattle.psc_graph.specs.declared.node.Task.TheVariants.{Equal}
-use Rattle.psc_rows.proofs.TaskLemmas.{steps_start, steps_chain, steps_taken, taken_inside}
+use Rattle.psc_rows.proofs.TaskLemmas.{steps_start, steps_after, steps_chain, steps_taken, taken_inside}
 use Rattle.psc_rows.proofs.solve.make_equal.Goals as goal
 
 pub loop-init : goal.loop-init
@@ -10,15 +10,20 @@ loop-init c = λ ready.
 
 pub loop-preserved : goal.loop-preserved
 loop-preserved c = λ ready.
-    let before = c.loop.invariant ready in
+    let start = c.loop.invariant ready in
+    let before = steps_after _ _ _ _ _ _ _ _ start (c.in_ok-shorten_last.ensures.steps _ start.ready start.inside) in
     let taken = taken_inside _ _ _ _ c.in-Some.ensures before.inside in
     steps_chain _ _ _ _ _ _ _ _ _ _ _ c.in-Some.ensures before (c.in-Ok.ensures.steps before.ready taken.0)
 
 pub returns-in-Err-clause-clash : goal.returns-in-Err-clause-clash
 returns-in-Err-clause-clash c = λ e ready v sol same.
-    let before = c.loop.invariant ready in
+    let start = c.loop.invariant ready in
+    let before = steps_after _ _ _ _ _ _ _ _ start (c.in_ok-shorten_last.ensures.steps _ start.ready start.inside) in
     let w = steps_taken _ _ _ _ _ _ _ c.in-Some.ensures before v sol same in
     c.in-Err.ensures.clash e before.ready w.0 w.1 w.2
 
 pub returns-in_default-clause-steps : goal.returns-in_default-clause-steps
-returns-in_default-clause-steps c = λ ready. subst (Steps (λ v. v c.args.a ≡ v c.args.b) _ _ _ []) c.in_default.ensures (c.loop.invariant ready)
+returns-in_default-clause-steps c = λ ready.
+    let start = c.loop.invariant ready in
+    let before = steps_after _ _ _ _ _ _ _ _ start (c.in_ok-shorten_last.ensures.steps _ start.ready start.inside) in
+    subst (Steps (λ v. v c.args.a ≡ v c.args.b) _ _ _ []) c.in_default.ensures before
