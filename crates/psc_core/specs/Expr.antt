@@ -35,7 +35,7 @@ use Rattle.psc_core.specs.declared.typed.LocalGroup.TheFolds.{fold-LocalGroup, f
 use Rattle.psc_core_cases.specs.Made.{plain, variable, true_binder}
 use Rattle.psc_core.specs.Evidence.{evidence, super_fields}
 use Rattle.psc_core.specs.Binder.{binder}
-use Rattle.psc_core.specs.Numbers.{Erased, Erasing, done, made, both, all}
+use Rattle.psc_core.specs.Numbers.{Erasing, done, made, both, all}
 use Rattle.psc_core_cases.specs.Numbers.{after}
 use Rattle.psc_core_cases.specs.Rows.{alternative, row_of, case_of}
 
