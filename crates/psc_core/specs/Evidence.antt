@@ -8,7 +8,7 @@ use Rattle.psc_core_tree.specs.declared.literal.Field.{Field}
 use Rattle.psc_core.specs.declared.evidence.Evidence.{Evidence}
 use Rattle.psc_core.specs.declared.evidence.Evidence.TheOpen.{Evidence-F}
 use Rattle.psc_core.specs.declared.evidence.Evidence.TheFolds.{fold-Evidence}
-use Rattle.psc_core.specs.Made.{plain, variable, forced, thunk, super_label}
+use Rattle.psc_core_cases.specs.Made.{plain, variable, forced, thunk, super_label}
 
 abbrev pub applied_to : Span → CoreExpr → CoreExpr → CoreExpr
 applied_to at f e = core.App (plain at) f e

@@ -15,11 +15,11 @@ use Rattle.psc_core_tree.specs.declared.expr.CoreExpr.TheVariants as core
 use Rattle.psc_core_tree.specs.declared.literal.Field.{Field}
 use Rattle.psc_core_tree.specs.declared.literal.Literal.{Literal}
 use Rattle.psc_core_tree.specs.declared.literal.Literal.TheVariants as literal_of
-use Rattle.psc_core.specs.declared.numbers.Numbers.{Numbers}
-use Rattle.psc_core.specs.declared.rows.Branch.{Branch}
-use Rattle.psc_core.specs.declared.rows.Row.{Row}
-use Rattle.psc_core.specs.declared.rows.Row.TheVariants.{Plain}
-use Rattle.psc_core.specs.declared.rows.Test.{Test}
+use Rattle.psc_core_cases.specs.declared.numbering.Numbers.{Numbers}
+use Rattle.psc_core_cases.specs.declared.rows.Branch.{Branch}
+use Rattle.psc_core_cases.specs.declared.rows.Row.{Row}
+use Rattle.psc_core_cases.specs.declared.rows.Row.TheVariants.{Plain}
+use Rattle.psc_core_cases.specs.declared.rows.Test.{Test}
 use Rattle.psc_core.specs.declared.typed.LocalBind.{LocalBind}
 use Rattle.psc_core.specs.declared.typed.LocalGroup.{LocalGroup}
 use Rattle.psc_core.specs.declared.typed.Typed.{Typed}
@@ -32,11 +32,12 @@ use Rattle.psc_core.specs.declared.typed.TypedRow.{TypedRow}
 use Rattle.psc_core.specs.declared.typed.TypedTest.{TypedTest}
 use Rattle.psc_core.specs.declared.typed.LocalGroup.TheOpen.{LocalGroup-F, TypedForm-F, TypedLit-F, TypedOutcome-F, TypedTest-F, LocalBind-F, Typed-F, TypedBranch-F, TypedField-F, TypedRow-F}
 use Rattle.psc_core.specs.declared.typed.LocalGroup.TheFolds.{fold-LocalGroup, fold-TypedForm, fold-TypedLit, fold-TypedOutcome, fold-TypedTest, fold-LocalBind, fold-Typed, fold-TypedBranch, fold-TypedField, fold-TypedRow}
-use Rattle.psc_core.specs.Made.{plain, variable, true_binder}
+use Rattle.psc_core_cases.specs.Made.{plain, variable, true_binder}
 use Rattle.psc_core.specs.Evidence.{evidence, super_fields}
 use Rattle.psc_core.specs.Binder.{binder}
-use Rattle.psc_core.specs.Numbers.{Erased, Erasing, done, made, both, all, after}
-use Rattle.psc_core.specs.Rows.{alternative, row_of, case_of}
+use Rattle.psc_core.specs.Numbers.{Erasing, done, made, both, all}
+use Rattle.psc_core_cases.specs.Numbers.{after}
+use Rattle.psc_core_cases.specs.Rows.{alternative, row_of, case_of}
 
 -- a part of a guard, for a case at some place: whether a test `p <- e` stands in it, and what it is erased to
 pub record Tried (A : Type 0) : Type 0 where

@@ -1,10 +1,6 @@
--- Numbers of made names, and trees that take them in order.
-use Rattle.std.specs.Prelude.{ℕ, ◌+◌, List, [], ◌∷◌}
-use Rattle.psc_core.specs.declared.numbers.Numbers.{Numbers}
-
--- what comes next after so many subjects and places
-abbrev pub after : Numbers → ℕ → ℕ → Numbers
-after n subjects places = record { subjects = n.subjects + subjects; places = n.places + places }
+-- Parts of trees that take numbers of made names in order.
+use Rattle.std.specs.Prelude.{List, [], ◌∷◌}
+use Rattle.psc_core_cases.specs.declared.numbering.Numbers.{Numbers}
 
 -- what a part is erased to, and the numbers that come next
 pub record Erased (A : Type 0) : Type 0 where

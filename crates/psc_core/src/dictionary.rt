@@ -7,7 +7,7 @@ ghost use Rattle.std.specs.Prelude.{◌≡◌, ◌++◌, IfOk, map};
 ghost use Rattle.psc_core.specs.Evidence as spec;
 
 use crate::evidence::Evidence;
-use crate::made::{forced, super_label, thunk, variable};
+use psc_core_cases::{forced, super_label, thunk, variable};
 use psc_core_tree::{Ann, CoreExpr, Field};
 use psc_text::{NoMemory, Qualified, Span};
 use sqlite_items::{Boxed, Items};

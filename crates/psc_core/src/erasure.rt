@@ -9,13 +9,13 @@ ghost use Rattle.psc_core.specs.Numbers.{all};
 
 use crate::binder::{erase_binder, erase_binders};
 use crate::dictionary::{dictionary, super_fields};
-use crate::made::{true_binder, variable};
-use crate::numbers::Numbers;
-use crate::rows::{Branch, Row, Test, alternative, case_of, row_of};
 use crate::scan::{after_case, branches_bind};
 use crate::typed::{
     LocalBind, LocalGroup, Typed, TypedBranch, TypedField, TypedForm, TypedLit, TypedOutcome,
     TypedRow, TypedTest,
+};
+use psc_core_cases::{
+    Branch, Numbers, Row, Test, alternative, case_of, row_of, true_binder, variable,
 };
 use psc_core_tree::{Ann, CoreBind, CoreBinder, CoreBinding, CoreExpr, Field, Literal, Meta};
 use psc_items::SharedItems;

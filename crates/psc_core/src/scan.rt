@@ -3,8 +3,8 @@
 ghost use Rattle.std.specs.Prelude.{◌≡◌, IfOk, map};
 ghost use Rattle.psc_core.specs.Expr as spec;
 
-use crate::numbers::{Numbers, after};
 use crate::typed::{Typed, TypedBranch, TypedOutcome, TypedRow, TypedTest};
+use psc_core_cases::{Numbers, after};
 use psc_text::NoMemory;
 
 fn test_binds(test: &TypedTest) -> bool

@@ -8,15 +8,15 @@ use Rattle.psc_core_tree.specs.declared.expr.CoreExpr.{CoreExpr}
 use Rattle.psc_core_tree.specs.declared.expr.CoreExpr.TheVariants as core
 use Rattle.psc_core_tree.specs.declared.expr.CoreGuarded.{CoreGuarded}
 use Rattle.psc_core_tree.specs.declared.expr.CoreOutcome.TheVariants as outcome_of
-use Rattle.psc_core.specs.declared.numbers.Numbers.{Numbers}
-use Rattle.psc_core.specs.declared.rows.Branch.{Branch}
-use Rattle.psc_core.specs.declared.rows.Failure.{Failure}
-use Rattle.psc_core.specs.declared.rows.Failure.TheVariants.{False, GoOn}
-use Rattle.psc_core.specs.declared.rows.Row.{Row}
-use Rattle.psc_core.specs.declared.rows.Row.TheVariants.{Plain, Attempt}
-use Rattle.psc_core.specs.declared.rows.Test.{Test}
-use Rattle.psc_core.specs.Made.{plain, variable, forced, thunk, truth, any_binder, bound, subject_name, place_name}
-use Rattle.psc_core.specs.Numbers.{after}
+use Rattle.psc_core_cases.specs.declared.numbering.Numbers.{Numbers}
+use Rattle.psc_core_cases.specs.declared.rows.Branch.{Branch}
+use Rattle.psc_core_cases.specs.declared.rows.Failure.{Failure}
+use Rattle.psc_core_cases.specs.declared.rows.Failure.TheVariants.{False, GoOn}
+use Rattle.psc_core_cases.specs.declared.rows.Row.{Row}
+use Rattle.psc_core_cases.specs.declared.rows.Row.TheVariants.{Plain, Attempt}
+use Rattle.psc_core_cases.specs.declared.rows.Test.{Test}
+use Rattle.psc_core_cases.specs.Made.{plain, variable, forced, thunk, truth, any_binder, bound, subject_name, place_name}
+use Rattle.psc_core_cases.specs.Numbers.{after}
 
 -- going on at the place of this number
 abbrev pub going_on : Span → ℕ → CoreExpr

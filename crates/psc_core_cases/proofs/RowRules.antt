@@ -2,11 +2,11 @@
 use Rattle.std.proofs.Common.{◌≡◌, ℕ, List, [], ◌∷◌, ◌++◌, ◌+◌, suc, length, refl, ap, ◌∙◌, arith}
 use Rattle.psc_text.specs.declared.span.Span.{Span}
 use Rattle.psc_core_tree.specs.declared.expr.CoreExpr.{CoreExpr}
-use Rattle.psc_core.specs.declared.rows.Branch.{Branch}
-use Rattle.psc_core.specs.declared.rows.Failure.{Failure}
-use Rattle.psc_core.specs.declared.rows.Failure.TheVariants.{False}
-use Rattle.psc_core.specs.declared.rows.Test.{Test}
-use Rattle.psc_core.specs.Rows as spec
+use Rattle.psc_core_cases.specs.declared.rows.Branch.{Branch}
+use Rattle.psc_core_cases.specs.declared.rows.Failure.{Failure}
+use Rattle.psc_core_cases.specs.declared.rows.Failure.TheVariants.{False}
+use Rattle.psc_core_cases.specs.declared.rows.Test.{Test}
+use Rattle.psc_core_cases.specs.Rows as spec
 
 pub nested_last : (at : Span) (fail : Failure) (ts : List Test) (t : Test) (e : CoreExpr) → spec.nested at fail (ts ++ t ∷ []) e ≡ spec.nested at fail ts (spec.tested at t e fail)
 unfolding spec.nested

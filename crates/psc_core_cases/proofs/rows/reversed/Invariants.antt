@@ -1,5 +1,5 @@
 use Rattle.std.proofs.Common.{◌≡◌, ◌++◌, reverse, length}
-use Rattle.psc_core.proofs.rows.reversed.Given as goal
+use Rattle.psc_core_cases.proofs.rows.reversed.Given as goal
 
 abbrev pub invariant-loop-item : goal.invariant-loop-item
 invariant-loop-item g l = l.other ++ reverse l.items ≡ reverse l.initial.items

@@ -1,7 +1,7 @@
 //! The numbers of made names, which count from 0 in each declaration.
 
 ghost use Rattle.std.specs.Prelude.{◌≡◌, ◌+◌, IfOk};
-ghost use Rattle.psc_core.specs.Numbers as spec;
+ghost use Rattle.psc_core_cases.specs.Numbers as spec;
 
 use psc_text::NoMemory;
 
@@ -20,7 +20,7 @@ pub(crate) fn behind(number: usize, count: usize) -> Result<usize, NoMemory>
 }
 
 /// What comes next after so many subjects and places.
-pub(crate) fn after(numbers: Numbers, subjects: usize, places: usize) -> Result<Numbers, NoMemory>
+pub fn after(numbers: Numbers, subjects: usize, places: usize) -> Result<Numbers, NoMemory>
     ensures { IfOk result (λ next. next ≡ spec.after numbers subjects places) }
 {
     let subjects = behind(numbers.subjects, subjects)?;

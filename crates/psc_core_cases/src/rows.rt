@@ -5,10 +5,10 @@
 //! fails is named too, as a place where the case goes on.
 
 ghost use Rattle.std.specs.Prelude.{◌≡◌, ◌+◌, ◌++◌, ◌∷◌, [], length, reverse, IfOk, map, true, false};
-ghost use Rattle.psc_core.specs.Rows as spec;
+ghost use Rattle.psc_core_cases.specs.Rows as spec;
 
 use crate::made::{any_binder, bound, forced, place_name, subject_name, thunk, truth, variable};
-use crate::numbers::{Numbers, after, behind};
+use crate::numbering::{Numbers, after, behind};
 use psc_core_tree::{
     Ann, CoreAlternative, CoreBind, CoreBinder, CoreExpr, CoreGuarded, CoreOutcome,
 };
@@ -78,7 +78,7 @@ fn failed(alloc: Global, at: Span, failure: Failure) -> Result<CoreExpr, NoMemor
     }
 }
 
-pub(crate) fn alternative(binders: Items<CoreBinder>, body: CoreExpr) -> CoreAlternative
+pub fn alternative(binders: Items<CoreBinder>, body: CoreExpr) -> CoreAlternative
     ensures { result ≡ spec.alternative binders body }
 {
     CoreAlternative {
@@ -197,7 +197,7 @@ fn guarded_ones(
 }
 
 /// An alternative with guarded branches, of which one has a test `p <- e` or none.
-pub(crate) fn row_of(
+pub fn row_of(
     alloc: Global,
     at: Span,
     binds: bool,
@@ -454,7 +454,7 @@ fn rows_of(
 }
 
 /// A case of these subjects and these rows. Its made names have the numbers from these on.
-pub(crate) fn case_of(
+pub fn case_of(
     alloc: Global,
     at: Span,
     subjects: Items<CoreExpr>,

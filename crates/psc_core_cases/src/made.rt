@@ -2,7 +2,7 @@
 //! from, and nothing is known of it.
 
 ghost use Rattle.std.specs.Prelude.{◌≡◌, ◌++◌, IfOk, codes, decimal};
-ghost use Rattle.psc_core.specs.Made as spec;
+ghost use Rattle.psc_core_cases.specs.Made as spec;
 
 use itoa::Buffer;
 use psc_core_tree::{Ann, BinderLiteral, CoreBind, CoreBinder, CoreBinding, CoreExpr, Literal};
@@ -20,7 +20,7 @@ fn numbered(alloc: Global, front: &str, number: usize) -> Result<Text, NoMemory>
 }
 
 /// The label of the superclass of this number, counted from 0.
-pub(crate) fn super_label(alloc: Global, number: usize) -> Result<Label, NoMemory>
+pub fn super_label(alloc: Global, number: usize) -> Result<Label, NoMemory>
     ensures { IfOk result (λ label. label ≡ spec.super_label number) }
 {
     Ok(Label(numbered(alloc, "$super", number)?))
@@ -41,7 +41,7 @@ pub(crate) fn place_name(alloc: Global, number: usize) -> Result<Text, NoMemory>
 }
 
 /// A local name where it is used.
-pub(crate) fn variable(at: Span, name: Text) -> CoreExpr
+pub fn variable(at: Span, name: Text) -> CoreExpr
     ensures { result ≡ spec.variable at name }
 {
     CoreExpr::Var {
@@ -70,7 +70,7 @@ fn undefined(alloc: Global, at: Span) -> Result<CoreExpr, NoMemory>
 }
 
 /// A value that is put off.
-pub(crate) fn thunk(alloc: Global, at: Span, value: CoreExpr) -> Result<CoreExpr, NoMemory>
+pub fn thunk(alloc: Global, at: Span, value: CoreExpr) -> Result<CoreExpr, NoMemory>
     ensures { IfOk result (λ core. core ≡ spec.thunk at value) }
 {
     let argument = Ident(Text::new(alloc, "$u")?);
@@ -82,7 +82,7 @@ pub(crate) fn thunk(alloc: Global, at: Span, value: CoreExpr) -> Result<CoreExpr
 }
 
 /// A value that was put off, where it is wanted.
-pub(crate) fn forced(alloc: Global, at: Span, value: CoreExpr) -> Result<CoreExpr, NoMemory>
+pub fn forced(alloc: Global, at: Span, value: CoreExpr) -> Result<CoreExpr, NoMemory>
     ensures { IfOk result (λ core. core ≡ spec.forced at value) }
 {
     let argument = Boxed::new(alloc, undefined(alloc, at)?)?;
@@ -103,7 +103,7 @@ pub(crate) fn truth(at: Span, truth: bool) -> CoreExpr
 }
 
 /// The binder `true`.
-pub(crate) fn true_binder(at: Span) -> CoreBinder
+pub fn true_binder(at: Span) -> CoreBinder
     ensures { result ≡ spec.true_binder at }
 {
     CoreBinder::Literal {
