@@ -1,25 +1,30 @@
 -- A binding, as one statement for each of its clauses.
 use Rattle.std.proofs.Common.{◌≡◌, ℕ, List, Option, Some, slice_get, slice_set, length, length-set, ◌<◌, ap, sym, ◌∙◌, inl, inr}
+use Rattle.std.specs.Coded.{Coded-set, coded_ℕ}
+use Rattle.std.proofs.Math.Logic.{∥∥₁_elim}
 use Rattle.std.proofs.lemmas.Option.{slice_get_within}
 use Rattle.psc_graph.specs.Tree.{Tree, Lacks, subst}
 use Rattle.psc_graph.specs.Model.{Solves, HasHoles}
 use Rattle.psc_graph.specs.General.{IsReady, IsSolution, kind_of}
 use Rattle.psc_graph.specs.declared.node.Node.{Node}
 use Rattle.psc_graph.specs.declared.node.Node.TheVariants.{Free, Link}
+use Rattle.psc_graph.specs.Settled.{IsApart}
 use Rattle.psc_graph.proofs.Writes.{before_write}
+use Rattle.psc_graph.proofs.SettledLemmas.{apart_lacks}
 use Rattle.psc_graph.proofs.Trees.{kind-subst}
 use Rattle.psc_graph.proofs.BindLemmas.{bind_sound, bind_complete, bind_general, bind_suits, suits_fewer, kind_with, replace}
 
-module _ (nodes : List Node) (kinds : List (Option ℕ)) (u s t : ℕ) (n : Node)
-    (free : slice_get nodes u ≡ Some (Free s)) (target : slice_get nodes t ≡ Some n) where
+-- an unknown that is no part of the node's value
+pub part_lacks : (root : ℕ) (nodes : List Node) (at : ℕ) → ∥ IsApart root nodes at ∥₁ → (m : ℕ → Tree) → Solves m nodes → HasHoles m nodes → Lacks root (m at)
+part_lacks root nodes at apart m sol holes = ∥∥₁_elim apart (Coded-set coded_ℕ _ _) (λ a. apart_lacks root nodes at a m sol holes)
+
+module _ (nodes : List Node) (kinds : List (Option ℕ)) (u s t : ℕ)
+    (free : slice_get nodes u ≡ Some (Free s)) (within : t < length nodes) where
   pub solution_after : (v : ℕ → Tree) → IsSolution v nodes → v u ≡ v t → IsSolution v (slice_set nodes u (Link t))
   solution_after v sol same = record {
     solves = bind_complete v nodes u t sol.solves same;
     suits = suits_fewer v nodes u t sol.suits;
   }
-
-  within : t < length nodes
-  within = slice_get_within nodes t n target
 
   pub solution_before :
       slice_get kinds t ≡ Some (Some s) → ((m : ℕ → Tree) → Solves m nodes → HasHoles m nodes → Lacks u (m t)) →

@@ -8,3 +8,4 @@ pub mod Walk
 pub mod PushLemmas
 pub mod BindAll
 pub mod ShortLemmas
+pub mod SettledLemmas

@@ -22,8 +22,8 @@ module _ (nodes : List Node) (u t : ℕ) (n o : Node)
     ];
   }
 
-  solves_before : (v : ℕ → Tree) → Solves v (slice_set nodes u (Link t)) → Solves v nodes
-  solves_before v s =
+  pub merge_back : (v : ℕ → Tree) → Solves v (slice_set nodes u (Link t)) → Solves v nodes
+  merge_back v s =
       let same : v u ≡ v t = s.each u (Link t) (written nodes u (Link t) n at_u) in
       let other : Meets v (v t) o = elim (before_write nodes u (Link t) t o at_t) [ inl p ↦ absurd (apart (sym p)) | inr h ↦ s.each t o h ] in
       record {
@@ -35,22 +35,22 @@ module _ (nodes : List Node) (u t : ℕ) (n o : Node)
       }
 
   -- the unknowns stay
-  free_still : (k x : ℕ) → slice_get nodes k ≡ Some (Free x) → slice_get (slice_set nodes u (Link t)) k ≡ Some (Free x)
-  free_still k x e = elim (before_write nodes u (Link t) k (Free x) e) [
+  pub merge_unknowns : (k x : ℕ) → slice_get nodes k ≡ Some (Free x) → slice_get (slice_set nodes u (Link t)) k ≡ Some (Free x)
+  merge_unknowns k x e = elim (before_write nodes u (Link t) k (Free x) e) [
     | inl p ↦ (let w : Some n ≡ Some (Free x) = sym at_u ∙ ap (slice_get nodes) (sym p) ∙ e in let is : n ≡ Free x = cc in absurd (free x is))
     | inr h ↦ h
   ]
 
   own_still : (y : Tree) → IsOwn nodes y → IsOwn (slice_set nodes u (Link t)) y
-  own_still (Hole x k) own = free_still x k own
+  own_still (Hole x k) own = merge_unknowns x k own
   own_still (TAtom a) own = tt
   own_still (TJoin f a b) own = (own_still a own.0, own_still b own.1)
   own_still (TField l a b) own = (own_still a own.0, own_still b own.1)
 
   pub merge_sound : (v : ℕ → Tree) → IsSolution v (slice_set nodes u (Link t)) → IsSolution v nodes
   merge_sound v s = record {
-    solves = solves_before v s.solves;
-    suits = record { kind = λ k x e. s.suits.kind k x (free_still k x e) };
+    solves = merge_back v s.solves;
+    suits = record { kind = λ k x e. s.suits.kind k x (merge_unknowns k x e) };
   }
 
   pub merge_complete : (v : ℕ → Tree) → IsSolution v nodes → IsSolution v (slice_set nodes u (Link t))
@@ -70,7 +70,7 @@ module _ (nodes : List Node) (u t : ℕ) (n o : Node)
           solves = bind_complete r.value nodes u t g.solves (equal r.value g.solves);
           holes = record { hole = λ k x e. elim (after_write nodes u (Link t) k (Free x) e) [ inl p ↦ (let w : Free x ≡ Link t = p.1 in absurd cc) | inr p ↦ g.holes.hole k x p.1 ] };
           own = λ k below. own_still (r.value k) (g.own k (rw long at below));
-          general = λ v s k. g.general v (solves_before v s) k;
+          general = λ v s k. g.general v (merge_back v s) k;
         };
         long = r.long ∙ sym long;
         kinds = r.kinds;

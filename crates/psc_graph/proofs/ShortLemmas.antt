@@ -9,8 +9,8 @@ use Rattle.psc_graph.proofs.Writes.{after_write, before_write, written}
 use Rattle.psc_graph.proofs.BindLemmas.{bind_complete, bind_closed, suits_fewer}
 
 module _ (nodes : List Node) (u t w : ℕ) (at_u : slice_get nodes u ≡ Some (Link t)) (at_t : slice_get nodes t ≡ Some (Link w)) (apart : u ≡ t → ⊥) where
-  solves_before : (v : ℕ → Tree) → Solves v (slice_set nodes u (Link w)) → Solves v nodes
-  solves_before v s =
+  pub skip_back : (v : ℕ → Tree) → Solves v (slice_set nodes u (Link w)) → Solves v nodes
+  skip_back v s =
       let here : v u ≡ v w = s.each u (Link w) (written nodes u (Link w) (Link t) at_u) in
       let there : v t ≡ v w = elim (before_write nodes u (Link w) t (Link w) at_t) [ inl p ↦ absurd (apart (sym p)) | inr h ↦ s.each t (Link w) h ] in
       record {
@@ -25,22 +25,22 @@ module _ (nodes : List Node) (u t w : ℕ) (at_u : slice_get nodes u ≡ Some (L
   equal v s = s.each u (Link t) at_u ∙ s.each t (Link w) at_t
 
   -- the unknowns stay
-  free_still : (k x : ℕ) → slice_get nodes k ≡ Some (Free x) → slice_get (slice_set nodes u (Link w)) k ≡ Some (Free x)
-  free_still k x e = elim (before_write nodes u (Link w) k (Free x) e) [
+  pub skip_unknowns : (k x : ℕ) → slice_get nodes k ≡ Some (Free x) → slice_get (slice_set nodes u (Link w)) k ≡ Some (Free x)
+  skip_unknowns k x e = elim (before_write nodes u (Link w) k (Free x) e) [
     | inl p ↦ (let z : Some (Link t) ≡ Some (Free x) = sym at_u ∙ ap (slice_get nodes) (sym p) ∙ e in absurd cc)
     | inr h ↦ h
   ]
 
   own_still : (y : Tree) → IsOwn nodes y → IsOwn (slice_set nodes u (Link w)) y
-  own_still (Hole x k) own = free_still x k own
+  own_still (Hole x k) own = skip_unknowns x k own
   own_still (TAtom a) own = tt
   own_still (TJoin f a b) own = (own_still a own.0, own_still b own.1)
   own_still (TField l a b) own = (own_still a own.0, own_still b own.1)
 
   pub skip_sound : (v : ℕ → Tree) → IsSolution v (slice_set nodes u (Link w)) → IsSolution v nodes
   skip_sound v s = record {
-    solves = solves_before v s.solves;
-    suits = record { kind = λ k x e. s.suits.kind k x (free_still k x e) };
+    solves = skip_back v s.solves;
+    suits = record { kind = λ k x e. s.suits.kind k x (skip_unknowns k x e) };
   }
 
   pub skip_complete : (v : ℕ → Tree) → IsSolution v nodes → IsSolution v (slice_set nodes u (Link w))
@@ -60,7 +60,7 @@ module _ (nodes : List Node) (u t w : ℕ) (at_u : slice_get nodes u ≡ Some (L
           solves = bind_complete r.value nodes u w g.solves (equal r.value g.solves);
           holes = record { hole = λ k x e. elim (after_write nodes u (Link w) k (Free x) e) [ inl p ↦ (let z : Free x ≡ Link w = p.1 in absurd cc) | inr p ↦ g.holes.hole k x p.1 ] };
           own = λ k below. own_still (r.value k) (g.own k (rw long at below));
-          general = λ v s k. g.general v (solves_before v s) k;
+          general = λ v s k. g.general v (skip_back v s) k;
         };
         long = r.long ∙ sym long;
         kinds = r.kinds;

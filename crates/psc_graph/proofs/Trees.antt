@@ -17,15 +17,6 @@ size-put l t (TField m u r) = elim (leb_tells l m) [
   | inr p ↦ (let is = ap size (put_past l t m u r p.0) in let rest = size-put l t r in omega arith)
 ]
 
-pub count-put : (x l : ℕ) (t r : Tree) → count x (put l t r) ≡ count x t + count x r
-count-put x l t (Hole y k) = refl
-count-put x l t (TAtom a) = refl
-count-put x l t (TJoin f a b) = refl
-count-put x l t (TField m u r) = elim (leb_tells l m) [
-  | inl p ↦ ap (count x) (put_at l t m u r p.1)
-  | inr p ↦ (let is = ap (count x) (put_past l t m u r p.0) in let rest = count-put x l t r in omega arith)
-]
-
 row-swap : (x y z : Option ℕ) → row_kind x (row_kind y z) ≡ row_kind y (row_kind x z)
 row-swap None None z = refl
 row-swap None (Some b) None = refl

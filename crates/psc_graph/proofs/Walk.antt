@@ -1,12 +1,13 @@
--- A walk over the nodes: what was seen by its end has no part that is the root.
+-- A walk over the nodes: what was seen by its end is settled by the unknowns but the root.
 use Rattle.std.proofs.Common.{◌≡◌, ℕ, ◌<◌, ◌≤◌, Bool, true, false, ◌||◌, eqb, List, [], ◌∷◌, ◌++◌, ◌⊎◌, inl, inr, slice_get, Some, zero, suc, ap, refl, sym, ◌∙◌, arith, eq-eqb}
 use Rattle.std.proofs.lemmas.Bool.Decides.{eqb_tells}
-use Rattle.psc_graph.specs.Tree.{Tree, size, count, Lacks}
-use Rattle.psc_graph.specs.Model.{Solves, HasHoles}
+use Rattle.psc_graph.specs.Tree.{Tree, TJoin, put, size}
+use Rattle.psc_graph.specs.Model.{Solves}
+use Rattle.psc_graph.specs.Settled.{IsApart}
 use Rattle.psc_graph.specs.Explore.{Has, Reaches, IsExplored, Explored, Visited, AllWithin, parts_of}
 use Rattle.psc_graph.specs.declared.node.Node.{Node}
 use Rattle.psc_graph.specs.declared.node.Node.TheVariants.{Free, Link, Atom, Join, Field}
-use Rattle.psc_graph.proofs.Nodes.{follows, size_join, size_field, count_join, count_field, lacks_free}
+use Rattle.psc_graph.proofs.Nodes.{follows, at_join, at_field, size_join, size_field}
 
 pub has_last : (x : ℕ) (xs ys : List ℕ) → Has x (xs ++ ys) → Has x xs ⊎ Has x ys
 has_last x [] ys h = inr h
@@ -106,35 +107,39 @@ module _ (root : ℕ) (nodes : List Node) (at : ℕ) (seen next : ℕ → Bool) 
     ])
   ]
 
--- nothing is left to see
+-- nothing is left to see, and two solutions agree on all unknowns but the root
 module _ (root : ℕ) (nodes : List Node) (seen : ℕ → Bool) (done : Explored root nodes seen [])
-    (m : ℕ → Tree) (sol : Solves m nodes) (holes : HasHoles m nodes) where
-  mutual_part : (b : ℕ) → ((k : ℕ) → seen k ≡ true → size (m k) < b → Lacks root (m k)) → (p : ℕ) → Reaches nodes seen [] p → size (m p) < b → Lacks root (m p)
+    (v w : ℕ → Tree) (sv : Solves v nodes) (sw : Solves w nodes) (agree : (x s : ℕ) → (root ≡ x → ⊥) → slice_get nodes x ≡ Some (Free s) → v x ≡ w x) where
+  mutual_part : (b : ℕ) → ((k : ℕ) → seen k ≡ true → size (v k) < b → v k ≡ w k) → (p : ℕ) → Reaches nodes seen [] p → size (v p) < b → v p ≡ w p
   mutual_part b h p r lt = elim r.known [
-    | inl e ↦ (let is = r.linked m (follows m nodes sol) in let same = ap size is in ap (count root) is ∙ h r.end e (omega arith))
+    | inl e ↦ (let one = r.linked v (follows v nodes sv) in
+        let two = r.linked w (follows w nodes sw) in
+        let same = ap size one in
+        one ∙ h r.end e (omega arith) ∙ sym two)
     | inr q ↦ absurd q
   ]
 
-  node_lacks : (b : ℕ) → ((k : ℕ) → seen k ≡ true → size (m k) < b → Lacks root (m k)) → (k : ℕ) (n : Node) → slice_get nodes k ≡ Some n → (root ≡ k → ⊥) → ((j : ℕ) → n ≡ Link j → ⊥) → ((p : ℕ) → Has p (parts_of n) → Reaches nodes seen [] p) → size (m k) < suc b → Lacks root (m k)
-  node_lacks b h k (Free s) e other ends parts lt = lacks_free m nodes root k s holes e other
-  node_lacks b h k (Link j) e other ends parts lt = absurd (ends j refl)
-  node_lacks b h k (Atom a) e other ends parts lt = ap (count root) (sol.each k (Atom a) e)
-  node_lacks b h k (Join f x y) e other ends parts lt =
-      let is = size_join m nodes k f x y sol e in
+  node_same : (b : ℕ) → ((k : ℕ) → seen k ≡ true → size (v k) < b → v k ≡ w k) → (k : ℕ) (n : Node) → slice_get nodes k ≡ Some n → (root ≡ k → ⊥) → ((j : ℕ) → n ≡ Link j → ⊥) → ((p : ℕ) → Has p (parts_of n) → Reaches nodes seen [] p) → size (v k) < suc b → v k ≡ w k
+  node_same b h k (Free s) e other ends parts lt = agree k s other e
+  node_same b h k (Link j) e other ends parts lt = absurd (ends j refl)
+  node_same b h k (Atom a) e other ends parts lt = sv.each k (Atom a) e ∙ sym (sw.each k (Atom a) e)
+  node_same b h k (Join f x y) e other ends parts lt =
+      let is = size_join v nodes k f x y sv e in
       let one = mutual_part b h x (parts x (inl refl)) (omega arith) in
       let two = mutual_part b h y (parts y (inr (inl refl))) (omega arith) in
-      let sum = count_join root m nodes k f x y sol e in
-      omega arith
-  node_lacks b h k (Field l x y) e other ends parts lt =
-      let is = size_field m nodes k l x y sol e in
+      at_join v nodes k f x y sv e ∙ ap (λ t. TJoin f t (v y)) one ∙ ap (TJoin f (w x)) two ∙ sym (at_join w nodes k f x y sw e)
+  node_same b h k (Field l x y) e other ends parts lt =
+      let is = size_field v nodes k l x y sv e in
       let one = mutual_part b h x (parts x (inl refl)) (omega arith) in
       let two = mutual_part b h y (parts y (inr (inl refl))) (omega arith) in
-      let sum = count_field root m nodes k l x y sol e in
-      omega arith
+      at_field v nodes k l x y sv e ∙ ap (λ t. put l t (v y)) one ∙ ap (put l (w x)) two ∙ sym (at_field w nodes k l x y sw e)
 
-  seen_lacks : (b : ℕ) (k : ℕ) → seen k ≡ true → size (m k) < b → Lacks root (m k)
-  seen_lacks zero k e lt = absurd (omega arith)
-  seen_lacks (suc b) k e lt = (let x = done k e in node_lacks b (seen_lacks b) k x.node x.is x.other x.ends x.parts lt)
+  seen_same : (b : ℕ) (k : ℕ) → seen k ≡ true → size (v k) < b → v k ≡ w k
+  seen_same zero k e lt = absurd (omega arith)
+  seen_same (suc b) k e lt = (let x = done k e in node_same b (seen_same b) k x.node x.is x.other x.ends x.parts lt)
 
-  pub reached_lacks : (p : ℕ) → Reaches nodes seen [] p → Lacks root (m p)
-  reached_lacks p r = mutual_part (suc (size (m p))) (seen_lacks (suc (size (m p)))) p r (omega arith)
+  pub reached_same : (p : ℕ) → Reaches nodes seen [] p → v p ≡ w p
+  reached_same p r = mutual_part (suc (size (v p))) (seen_same (suc (size (v p)))) p r (omega arith)
+
+pub reached_apart : (root : ℕ) (nodes : List Node) (seen : ℕ → Bool) → Explored root nodes seen [] → (p : ℕ) → Reaches nodes seen [] p → IsApart root nodes p
+reached_apart root nodes seen done p r = record { same = λ v w sv sw agree. reached_same root nodes seen done v w sv sw agree p r }

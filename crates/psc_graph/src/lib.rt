@@ -19,6 +19,6 @@ pub use growing::{kind_of_node, push_node};
 pub use links::{find, node_at};
 pub use merging::merge;
 pub use node::{Former, Leaf, Node, Stop, Task};
-pub use occurs::{is_seen, note, see, take_note};
+pub use occurs::{is_inside, is_seen, note, see, take_note};
 pub use shortening::skip;
 pub use work::{add, is_same_former, is_same_leaf, take_last};

@@ -1,7 +1,7 @@
 // Equal nodes become one node, from their parts upwards, so that what is shared is compared once.
-ghost use Rattle.std.specs.Prelude.{◌≡◌, ℕ, List, true, Option};
+ghost use Rattle.std.specs.Prelude.{◌≡◌, ℕ, List, true, Option, Some, slice_get};
 ghost use Rattle.psc_graph.specs.Tree.{Tree};
-ghost use Rattle.psc_graph.specs.Model.{Follows, Meets};
+ghost use Rattle.psc_graph.specs.Model.{Solves, Follows, Meets};
 ghost use Rattle.psc_graph.specs.General.{IsSolution, IsReady};
 
 use crate::links::{find, node_at};
@@ -67,6 +67,8 @@ pub fn merge(nodes: &mut [Node], a: usize, b: usize)
     ensures sound { (v : ℕ → Tree) → IsSolution v nodes.new → IsSolution v nodes.old }
     ensures complete { (v : ℕ → Tree) → IsSolution v nodes.old → IsSolution v nodes.new }
     ensures general { (kinds : List (Option ℕ)) → IsReady nodes.old kinds → IsReady nodes.new kinds }
+    ensures back { (v : ℕ → Tree) → Solves v nodes.new → Solves v nodes.old }
+    ensures unknowns { (k s : ℕ) → slice_get nodes.old k ≡ Some (Node.Free s) → slice_get nodes.new k ≡ Some (Node.Free s) }
 {
     let (Some(x), Some(y)) = (node_at(nodes, a), node_at(nodes, b)) else {
         return;

@@ -1,7 +1,8 @@
 // The occurs check: whether an unknown is a part of a node's value. It visits each node once.
 ghost use Rattle.std.specs.Prelude.{◌≡◌, ◌<◌, ◌≤◌, ◌+◌, ℕ, true, false, OnOk, IfOk, slice_get, Some, Err, Ok, MatchOption, [], ◌∷◌, ◌++◌, eqb, ◌||◌};
-ghost use Rattle.psc_graph.specs.Tree.{Tree, size, Lacks};
-ghost use Rattle.psc_graph.specs.Model.{Solves, HasHoles};
+ghost use Rattle.psc_graph.specs.Tree.{Tree, size};
+ghost use Rattle.psc_graph.specs.Model.{Solves};
+ghost use Rattle.psc_graph.specs.Settled.{IsApart};
 ghost use Rattle.psc_graph.specs.Explore.{Visited, AllWithin, parts_of};
 ghost use Rattle.std.specs.BTreeSet.{contains};
 ghost use Rattle.std.specs.Ordering.{nat_cmp};
@@ -116,7 +117,7 @@ fn is_in_either(
     right: usize,
 ) -> Result<bool, Stop>
     ensures within { result ≡ Ok true → (v : ℕ → Tree) → Solves v nodes.now → size (v root) ≤ size (v left) + size (v right) }
-    ensures apart { result ≡ Ok false → (m : ℕ → Tree) → Solves m nodes.now → HasHoles m nodes.now → Lacks root (m left) × Lacks root (m right) }
+    ensures apart { result ≡ Ok false → IsApart root nodes.now left × IsApart root nodes.now right }
     ensures clash { result ≡ Err Stop.Clash → ⊥ }
 {
     let mut seen = nothing_seen(alloc);
@@ -132,7 +133,8 @@ fn is_in_either(
     Err(Stop::Memory)
 }
 
-/// Whether the unknown `root` is a part of the value of the node `to`, which it is not itself.
+/// Whether the unknown `root` is a part of the value of the node `to`, which it is not itself. If it
+/// is, no solution has the two equal.
 pub fn is_inside(
     alloc: Global,
     nodes: &[Node],
@@ -143,8 +145,8 @@ pub fn is_inside(
     requires target { slice_get nodes.now to ≡ Some node }
     requires apart { root ≡ to → ⊥ }
     requires ends { (j : ℕ) → node ≡ Node.Link j → ⊥ }
-    ensures within { result ≡ Ok true → (v : ℕ → Tree) → Solves v nodes.now → size (v root) < size (v to) }
-    ensures apart { result ≡ Ok false → (m : ℕ → Tree) → Solves m nodes.now → HasHoles m nodes.now → Lacks root (m to) }
+    ensures never { result ≡ Ok true → (v : ℕ → Tree) → Solves v nodes.now → v root ≡ v to → ⊥ }
+    ensures apart { result ≡ Ok false → IsApart root nodes.now to }
     ensures clash { result ≡ Err Stop.Clash → ⊥ }
 {
     match node {

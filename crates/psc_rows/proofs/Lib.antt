@@ -7,3 +7,4 @@ pub mod ListLemmas
 pub mod TailLemmas
 pub mod FormLemmas
 pub mod StepLemmas
+pub mod BoundLemmas

@@ -1,12 +1,15 @@
 // A graph of nodes with their kinds, and the nodes that were overwritten.
-ghost use Rattle.std.specs.Prelude.{◌≡◌, ℕ, ◌<◌, List, ◌∷◌, ◌++◌, [], length, OnOk, IfOk, true, slice_get, Some, Err};
+ghost use Rattle.std.specs.Prelude.{◌≡◌, ℕ, ◌<◌, List, ◌∷◌, ◌++◌, [], length, OnOk, IfOk, true, false, slice_get, Some, Ok, Err};
 ghost use Rattle.psc_graph.specs.Tree.{Tree};
 ghost use Rattle.psc_graph.specs.Model.{IsInside};
+ghost use Rattle.psc_graph.specs.Settled.{IsApart};
 ghost use Rattle.psc_graph.specs.General.{Grows, IsReady, IsSolution};
 ghost use Rattle.psc_graph.specs.declared.node.Task.{Task};
 ghost use Rattle.psc_rows.specs.Steps.{Steps, AreInside};
+ghost use Rattle.psc_rows.specs.Bounds.{AreSettled};
 
-use psc_graph::{Node, Stop, Task, add, bind, merge, node_at, push_node, skip};
+use crate::settled::Settled;
+use psc_graph::{Node, Stop, Task, add, bind, is_inside, merge, node_at, push_node, skip};
 use std::alloc::Global;
 
 /// A node that was overwritten, with its place.
@@ -16,12 +19,15 @@ pub struct Write {
     pub node: Node,
 }
 
-/// Nodes with their kinds. A node under a binder has no kind. `writes` has what was overwritten.
+/// Nodes with their kinds, and with bounds of the unknowns that settle their values. A node under a binder
+/// has no kind. `writes` has what was overwritten.
 #[derive(Debug, Drop)]
 pub struct Graph {
     pub nodes: Vec<Node>,
     pub kinds: Vec<Option<u64>>,
     pub writes: Vec<Write>,
+    pub settled: Settled,
+    ghost bounded: { ∥ AreSettled nodes.items settled.bounds.items settled.low settled.floor ∥₁ },
 }
 
 /// Whether the parts of a node are places in the graph.
@@ -47,6 +53,7 @@ impl Graph {
             nodes: Vec::new(alloc),
             kinds: Vec::new(alloc),
             writes: Vec::new(alloc),
+            settled: Settled::new(alloc),
         }
     }
 
@@ -62,7 +69,16 @@ impl Graph {
         if !is_inside_graph(self.nodes.as_slice(), node) {
             return Err(Stop::Memory);
         }
-        push_node(&mut self.nodes, &mut self.kinds, node)
+        match push_node(&mut self.nodes, &mut self.kinds, node) {
+            Ok(place) => {
+                self.settled.push(place, node);
+                Ok(place)
+            }
+            Err(stop) => {
+                self.settled.forget();
+                Err(stop)
+            }
+        }
     }
 
     /// Remembers the node at a place, which is about to be overwritten.
@@ -75,6 +91,22 @@ impl Graph {
             Ok(()) => Ok(()),
             Err(_) => Err(Stop::Memory),
         }
+    }
+
+    /// Whether an unknown is a part of the value of another node. It is looked for unless the bounds tell
+    /// that it is none.
+    fn is_part(&self, alloc: Global, unknown: usize, to: usize, node: Node) -> Result<bool, Stop>
+        requires target { slice_get self.now.nodes.items to ≡ Some node }
+        requires apart { unknown ≡ to → ⊥ }
+        requires ends { (j : ℕ) → node ≡ Node.Link j → ⊥ }
+        ensures never { result ≡ Ok true → (v : ℕ → Tree) → IsSolution v self.now.nodes.items → v unknown ≡ v to → ⊥ }
+        ensures apart { result ≡ Ok false → ∥ IsApart unknown self.now.nodes.items to ∥₁ }
+        ensures clash { result ≡ Err Stop.Clash → ⊥ }
+    {
+        if self.settled.is_below(to, unknown) {
+            return Ok(false);
+        }
+        is_inside(alloc, self.nodes.as_slice(), unknown, to, node)
     }
 
     /// Links an unknown to another node. Clash where no solution has them equal.
@@ -93,17 +125,22 @@ impl Graph {
         ensures steps { OnOk result ((work : List Task) → IsReady self.old.nodes.items self.old.kinds.items → AreInside (length self.old.nodes.items) work → Steps (λ v. v unknown ≡ v to) self.old.nodes.items self.new.nodes.items self.new.kinds.items work work) }
         ensures clash { result ≡ Err Stop.Clash → IsReady self.old.nodes.items self.old.kinds.items → (v : ℕ → Tree) → IsSolution v self.old.nodes.items → v unknown ≡ v to → ⊥ }
     {
+        if self.is_part(alloc, unknown, to, node)? {
+            return Err(Stop::Clash);
+        }
         self.remember(unknown, Node::Free(kind))?;
+        let count = self.nodes.as_slice().len();
         match bind(
-            alloc,
             self.nodes.as_mut_slice(),
             self.kinds.as_slice(),
             unknown,
             kind,
             to,
-            node,
         ) {
-            Ok(()) => Ok(()),
+            Ok(()) => {
+                self.settled.link(unknown, to, count);
+                Ok(())
+            }
             Err(stop) => Err(stop),
         }
     }
@@ -134,7 +171,17 @@ impl Graph {
         Ok(())
     }
 
+    /// Takes back one write.
+    #[tactic(auto, using(crate::proofs::BoundLemmas::none_kept))]
+    fn undo(&mut self, write: Write) {
+        self.settled.forget();
+        if write.place < self.nodes.len() {
+            self.nodes[write.place] = write.node;
+        }
+    }
+
     /// Takes back all writes since there were so many, and the nodes past the first `length`.
+    #[tactic(auto, using(crate::proofs::BoundLemmas::none_kept))]
     pub fn take_back(&mut self, writes: usize, length: usize) {
         for _ in 0..self.writes.len() {
             if self.writes.len() <= writes {
@@ -143,10 +190,9 @@ impl Graph {
             let Some(write) = self.writes.pop() else {
                 break;
             };
-            if write.place < self.nodes.len() {
-                self.nodes[write.place] = write.node;
-            }
+            self.undo(write);
         }
+        self.settled.forget();
         self.nodes.truncate(length);
         self.kinds.truncate(length);
     }

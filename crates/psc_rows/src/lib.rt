@@ -8,7 +8,9 @@ mod align;
 mod fields;
 mod graph;
 mod rows;
+mod settled;
 mod solve;
 
 pub use graph::{Graph, Write};
+pub use settled::Settled;
 pub use solve::make_equal;

@@ -1,6 +1,6 @@
 use Rattle.std.proofs.Common.{ap, Bool, Ok, ◌+◌, refl, inl, inr, arith}
 use Rattle.psc_graph.specs.Tree.{size}
-use Rattle.psc_graph.proofs.Walk.{popped_within, explored_after, reaches_after, reached_lacks}
+use Rattle.psc_graph.proofs.Walk.{popped_within, explored_after, reaches_after, reached_apart}
 use Rattle.psc_graph.proofs.occurs.is_in_either.Goals as goal
 
 pub loop-init : goal.loop-init
@@ -12,9 +12,9 @@ loop-init c = record {
 }
 
 pub returns-in-None-clause-apart : goal.returns-in-None-clause-apart
-returns-in-None-clause-apart c = λ e m sol holes. (
-  reached_lacks _ _ _ (rw c.in-None.ensures at c.loop.invariant.explored) m sol holes _ (rw c.in-None.ensures at c.loop.invariant.from_left),
-  reached_lacks _ _ _ (rw c.in-None.ensures at c.loop.invariant.explored) m sol holes _ (rw c.in-None.ensures at c.loop.invariant.from_right),
+returns-in-None-clause-apart c = λ e. (
+  reached_apart _ _ _ (rw c.in-None.ensures at c.loop.invariant.explored) _ (rw c.in-None.ensures at c.loop.invariant.from_left),
+  reached_apart _ _ _ (rw c.in-None.ensures at c.loop.invariant.explored) _ (rw c.in-None.ensures at c.loop.invariant.from_right),
 )
 
 pub returns-then-branch-clause-within : goal.returns-then-branch-clause-within

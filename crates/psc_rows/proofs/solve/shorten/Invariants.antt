@@ -1,4 +1,4 @@
-use Rattle.std.proofs.Common.{ℕ, List, length}
+use Rattle.std.proofs.Common.{List, length}
 use Rattle.psc_graph.specs.General.{IsReady}
 use Rattle.psc_graph.specs.declared.node.Task.{Task}
 use Rattle.psc_rows.specs.Steps.{Steps, AreInside}
