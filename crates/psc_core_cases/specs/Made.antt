@@ -1,6 +1,5 @@
 -- Nodes that erasure makes. Each has a place, and nothing is known of it.
-use Rattle.std.specs.Prelude.{ℕ, Bool, true, false, List, [], ◌∷◌, ◌++◌, Some, None, codes, decimal}
-use Rattle.psc_text.specs.declared.names.Ident.{Ident}
+use Rattle.std.specs.Prelude.{ℕ, Bool, true, List, [], ◌∷◌, ◌++◌, Some, None, codes, decimal}
 use Rattle.psc_text.specs.declared.names.Label.{Label}
 use Rattle.psc_text.specs.declared.names.Qualified.{Qualified}
 use Rattle.psc_text.specs.declared.span.Span.{Span}

@@ -1,12 +1,11 @@
 -- Types one after another, and what the head of a constrained type is.
-use Rattle.std.proofs.Common.{◌≡◌, List, [], ◌∷◌, ◌++◌, map, Result, Ok, Err, refl, ap, ◌∙◌, sym, append_assoc, rules}
+use Rattle.std.proofs.Common.{◌≡◌, List, [], ◌∷◌, ◌++◌, Result, Ok, Err, refl, ap, ◌∙◌, sym, append_assoc, rules}
 use Rattle.psc_type.specs.declared.synonyms.ExpandFault.{ExpandFault}
 use Rattle.psc_type.specs.declared.ty.Constraint.{Constraint}
 use Rattle.psc_type.specs.declared.ty.Ty.{Ty, the_lemmas}
 use Rattle.psc_type.specs.declared.ty.Ty.TheVariants as ty
 use Rattle.psc_expand.specs.declared.head.Prepared.{Prepared}
-use Rattle.psc_expand.specs.declared.head.Head.{Head}
-use Rattle.psc_expand.specs.Expand.{and_then, all_finished, finished, head, part, parts, constraint, done}
+use Rattle.psc_expand.specs.Expand.{and_then, all_finished, head, part, parts, constraint, done}
 
 abbrev pub onto : List Ty → Result (List Ty) ExpandFault → Result (List Ty) ExpandFault
 onto ts r = and_then r (λ us. Ok (ts ++ us))

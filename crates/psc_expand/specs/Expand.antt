@@ -1,5 +1,5 @@
 -- Types without synonyms, over synonyms whose bodies are expanded already.
-use Rattle.std.specs.Prelude.{ℕ, Bool, ◌&&◌, List, [], ◌∷◌, ◌++◌, map, if◌then◌else◌, nat_eq, Option, Result, Ok, Err}
+use Rattle.std.specs.Prelude.{Bool, ◌&&◌, List, [], ◌∷◌, ◌++◌, map, if◌then◌else◌, nat_eq, Result, Ok, Err}
 use Rattle.std.specs.Option.{option_eq}
 use Rattle.std.specs.Cmp.Lexicographic.{pointwise}
 use Rattle.psc_text.specs.declared.names.Qualified.{Qualified}

@@ -1,5 +1,5 @@
 -- What a type is before its arguments are known.
-use Rattle.std.specs.Prelude.{ℕ, Bool, ◌==◌, List, [], ◌∷◌, ◌++◌, length, slice_get, if◌then◌else◌, nat_lt, Option, Some, None, Result, Ok, Err}
+use Rattle.std.specs.Prelude.{◌==◌, List, [], ◌∷◌, ◌++◌, length, slice_get, if◌then◌else◌, nat_lt, Option, Some, None, Result, Ok, Err}
 use Rattle.psc_text.specs.declared.names.Ident.{Ident}
 use Rattle.psc_text.specs.declared.names.Qualified.{Qualified}
 use Rattle.psc_type.specs.declared.vars.Replaced.{Replaced}

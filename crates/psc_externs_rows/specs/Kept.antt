@@ -1,6 +1,6 @@
 -- What the rows of interface files and of places keep: their texts are UTF-8, their names are names, and their numbers have
 -- so many bits.
-use Rattle.std.specs.Prelude.{ℕ, ◌^◌, Bool, true, ◌&&◌, nat_lt, List}
+use Rattle.std.specs.Prelude.{ℕ, ◌^◌, Bool, ◌&&◌, nat_lt, List}
 use Rattle.std.specs.List.{list_all}
 use Rattle.std.specs.Str.{chars, is_utf8}
 use Rattle.psc_text.specs.Letters.{is_module_name}

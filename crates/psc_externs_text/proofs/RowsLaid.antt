@@ -1,5 +1,5 @@
 -- The JSON data of rows that keep what they should are read back from their text.
-use Rattle.std.proofs.Common.{◌≡◌, ℕ, zero, suc, ◌^◌, ◌<◌, ◌&&◌, Bool, true, List, [], ◌∷◌, ◌++◌, map, codes, IsUtf8, refl, arith, ltb-true}
+use Rattle.std.proofs.Common.{◌≡◌, ℕ, suc, ◌^◌, ◌<◌, ◌&&◌, Bool, true, List, [], ◌∷◌, ◌++◌, map, codes, IsUtf8, refl, arith, ltb-true}
 use Rattle.std.proofs.lemmas.Bool.{and_parts}
 use Rattle.std.proofs.lemmas.Str.{IsUtf8-append, IsUtf8-from_is_utf8}
 use Rattle.std.specs.List.{list_all}
@@ -8,7 +8,6 @@ use Rattle.json.proofs.Printed.Utf8.{are_ascii, IsUtf8-are_ascii}
 use Rattle.serde_json.specs.Data.{Data, string}
 use Rattle.serde_json.specs.View.{items_of}
 use Rattle.psc_text.specs.Letters.{is_module_name}
-use Rattle.psc_text.specs.declared.names.OpName.{OpName}
 use Rattle.psc_text.specs.declared.span.Span.{Span}
 use Rattle.psc_type.specs.declared.kind.Kind.{Kind}
 use Rattle.psc_type.specs.declared.ty.Constraint.{Constraint}
@@ -40,7 +39,7 @@ use Rattle.psc_externs.specs.declared.rows.SynonymRow.{SynonymRow}
 use Rattle.psc_externs.specs.declared.rows.TypeRow.{TypeRow}
 use Rattle.psc_externs.specs.declared.rows.ValueRow.{ValueRow}
 use Rattle.psc_externs_rows.specs.Kept.{keeps_name, keeps_module, keeps_op, keeps_true_name, keeps_count, keeps_byte, keeps_kind, keeps_type, keeps_constraint, keeps_entity, keeps_param, keeps_dependency, keeps_class, keeps_constructor, keeps_export, keeps_fixity, keeps_instance, keeps_synonym, keeps_type_row, keeps_value, keeps_span, keeps_decl, keeps_use, is_interface, are_places}
-use Rattle.psc_externs_rows.specs.Rows.{count, list_of, kind, type_of, constraint, true_name, true_name_text, assoc_text, op_space_text, space_text, param, dependency, class_row, constructor_row, export_row, fixity_row, instance_row, synonym_row, type_row, value_row, span, decl_row, use_row}
+use Rattle.psc_externs_rows.specs.Rows.{count, list_of, kind, type_of, constraint, true_name_text, assoc_text, op_space_text, space_text, param, dependency, class_row, constructor_row, export_row, fixity_row, instance_row, synonym_row, type_row, value_row, span, decl_row, use_row}
 use Rattle.psc_externs_text.specs.Texts.{externs, places}
 use Rattle.psc_externs_words.specs.Words.{kind_words, words, constraint_words}
 use Rattle.psc_externs_text.proofs.Laid.{IsLaid, AreLaid}

@@ -1,7 +1,7 @@
 -- What the texts of an accepted source tell of it.
 use Rattle.std.specs.Prelude.{◌≡◌, ◌≢◌, ℕ, true, List, codes, IsUtf8, ◌↔◌, Option, Some}
 use Rattle.std.specs.List.{Contains}
-use Rattle.std.specs.Ordering.{nat_cmp, is_lt}
+use Rattle.std.specs.Ordering.{nat_cmp}
 use Rattle.std.specs.Cmp.Lexicographic.{slice_cmp}
 use Rattle.std.specs.List.Sorted.{IsStrictlySortedBy}
 use Rattle.psc_externs.specs.declared.externs.Externs.{Externs}

@@ -1,7 +1,6 @@
 -- The words of a kind or type make it again.
-use Rattle.std.proofs.Common.{◌≡◌, ℕ, zero, suc, ◌+◌, Bool, true, false, ◌&&◌, List, [], ◌∷◌, ◌++◌, length, map, Option, Some, None, option_map, option_and_then, codes, refl, sym, ap, ◌∙◌, subst, arith, rules, append_assoc, append-nil, length-append}
+use Rattle.std.proofs.Common.{◌≡◌, ℕ, suc, ◌+◌, Bool, true, false, ◌&&◌, List, [], ◌∷◌, ◌++◌, length, map, Option, Some, None, option_map, option_and_then, codes, refl, sym, ap, ◌∙◌, subst, arith, rules, append_assoc, append-nil, length-append}
 use Rattle.std.proofs.lemmas.Bool.{and_parts}
-use Rattle.std.specs.List.{list_all}
 use Rattle.psc_text.specs.declared.names.Ident.{Ident}
 use Rattle.psc_text.specs.declared.names.Label.{Label}
 use Rattle.psc_text.specs.declared.names.Qualified.{Qualified}
@@ -14,13 +13,12 @@ use Rattle.psc_type.specs.declared.kind.Kind.TheViews.{roll-Kind}
 use Rattle.psc_type.specs.declared.kind.Kind.TheFolds.{ind-Kind}
 use Rattle.psc_type.specs.declared.ty.Constraint.{Constraint}
 use Rattle.psc_type.specs.declared.ty.Ty as types
-use Rattle.psc_type.specs.declared.ty.Ty.{Ty, end_of-Ty, more_of-Ty}
+use Rattle.psc_type.specs.declared.ty.Ty.{Ty}
 use Rattle.psc_type.specs.declared.ty.Ty.TheVariants as ty
 use Rattle.psc_type.specs.declared.ty.Ty.TheOpen.{Ty-F}
 use Rattle.psc_type.specs.declared.ty.Ty.TheViews.{roll-Ty}
 use Rattle.psc_type.specs.declared.ty.Ty.TheFolds.{ind-Ty}
-use Rattle.psc_type.specs.declared.ty.Ty.TheBlock as block
-use denote.Hole.Carrier.{hidden, roll}
+use denote.Hole.Carrier.{roll}
 use Rattle.psc_externs.specs.Names.{is_name, is_true_name}
 use Rattle.psc_externs.specs.Sizes.{kind_size, size, arguments_size, constraint_size}
 use Rattle.psc_externs.specs.Written.{is_written, are_written, is_written_constraint}
@@ -28,7 +26,7 @@ use Rattle.psc_externs.proofs.SizeRules.{size-Given}
 use Rattle.psc_externs.proofs.WrittenRules.{written-Given}
 use Rattle.psc_externs_words.specs.Words.{Words, word, first, kind_words, qualified_text, apps, concatenated, words, constraint_words}
 use Rattle.psc_externs_words.specs.Reading.{Stack, Step, push, makes_kind, makes_type, given_to, class_and_args, constraint_of, step}
-use Rattle.psc_externs_words.specs.declared.stack.Item.TheVariants.{OfKind, OfType}
+use Rattle.psc_externs_words.specs.declared.stack.Item.TheVariants.{OfType}
 use Rattle.psc_externs_words.proofs.ClassRules.{with_args, class-App, class-Con}
 use Rattle.psc_externs_words.proofs.WordRules.{words-Given}
 use Rattle.psc_externs_words.proofs.Steps.{Spells, spells-none, spells-word, spells-append, spells-as, spells-first, nil-step, star-step, constr-step, sym-step, row-step, arrow-step, app-step, given-step, var-step, symbol-step, forall-step, label-step, con-step}

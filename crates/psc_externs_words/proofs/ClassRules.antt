@@ -5,7 +5,7 @@ use Rattle.psc_text.specs.declared.names.Label.{Label}
 use Rattle.psc_text.specs.declared.names.Qualified.{Qualified}
 use Rattle.psc_type.specs.declared.kind.Kind.{Kind}
 use Rattle.psc_type.specs.declared.ty.Constraint.{Constraint}
-use Rattle.psc_type.specs.declared.ty.Ty.{Ty, end_of-Ty, more_of-Ty}
+use Rattle.psc_type.specs.declared.ty.Ty.{Ty}
 use Rattle.psc_type.specs.declared.ty.Ty.TheVariants as ty
 use Rattle.psc_type.specs.declared.ty.Ty.TheBlock as block
 use denote.Hole.Carrier.{hidden}

@@ -1,5 +1,5 @@
 -- What all the words of a type, a kind or a constraint make.
-use Rattle.std.proofs.Common.{◌≡◌, ℕ, ◌≤◌, Bool, true, false, ◌&&◌, not, List, [], ◌∷◌, ◌++◌, length, Some, option_and_then, refl, sym, ap, ◌∙◌, subst, arith, append-nil, ltb-false}
+use Rattle.std.proofs.Common.{◌≡◌, ℕ, ◌≤◌, true, false, ◌&&◌, not, [], ◌∷◌, ◌++◌, length, Some, option_and_then, sym, ap, ◌∙◌, arith, append-nil, ltb-false}
 use Rattle.std.proofs.lemmas.Bool.{and_parts, not-true}
 use Rattle.psc_type.specs.Closed.{is_known_kind}
 use Rattle.psc_type.specs.declared.kind.Kind.{Kind}
@@ -8,11 +8,11 @@ use Rattle.psc_type.specs.declared.ty.Ty.{Ty}
 use Rattle.psc_type.specs.declared.ty.Ty.TheVariants as ty
 use Rattle.psc_externs.specs.Sizes.{kind_size, size, constraint_size, is_long}
 use Rattle.psc_externs.specs.Written.{is_written, is_written_constraint, is_extern_kind, is_extern_type, is_extern_constraint}
-use Rattle.psc_externs_words.specs.Reading.{Stack, Step, lone, made, run, makes_kind, makes_type, constraint_of}
+use Rattle.psc_externs_words.specs.Reading.{Step, lone, made, run, makes_kind, makes_type}
 use Rattle.psc_externs_words.specs.Words.{Words, kind_words, words, constraint_words}
 use Rattle.psc_externs_words.specs.declared.stack.Item.{Item}
 use Rattle.psc_externs_words.specs.declared.stack.Item.TheVariants.{OfKind, OfType}
-use Rattle.psc_externs_words.proofs.Back.{kind_back, type_back, constraint_back, applied, constraint_of-applied}
+use Rattle.psc_externs_words.proofs.Back.{kind_back, type_back, constraint_back, applied}
 use Rattle.psc_externs_words.proofs.Pops.{pop-push}
 use Rattle.psc_externs_words.proofs.Steps.{Spells}
 

@@ -1,7 +1,6 @@
 -- How a mention is refused.
-use Rattle.std.specs.Prelude.{◌≡◌, ℕ, List, [], ◌∷◌, ⊤, ⊥}
+use Rattle.std.specs.Prelude.{◌≡◌, [], ◌∷◌, ⊤, ⊥}
 use Rattle.psc_ast.specs.declared.names.Mention.{Mention}
-use Rattle.psc_error.specs.declared.code.Code.{Code}
 use Rattle.psc_error.specs.declared.code.Code.TheVariants.{UnknownName, ScopeConflict}
 use Rattle.psc_scope.specs.declared.stop.Stop.{Stop}
 use Rattle.psc_scope.specs.declared.stop.Stop.TheVariants.{NoMemory, Wrong}

@@ -4,7 +4,7 @@ use Rattle.std.specs.declared.cmp.Ordering.{Ordering}
 use Rattle.std.specs.Ordering.{nat_cmp, ordering_then}
 use Rattle.std.specs.Option.{option_cmp}
 use Rattle.std.specs.Cmp.Lexicographic.{slice_cmp}
-use Rattle.std.specs.BTreeMap.{BTreeMap, get}
+use Rattle.std.specs.BTreeMap.{get}
 use Rattle.psc_scope.specs.declared.keys.Area.{Area}
 use Rattle.psc_scope.specs.declared.keys.Area.TheVariants as area
 use Rattle.psc_scope.specs.declared.keys.Key.{Key}

@@ -1,4 +1,4 @@
-use Rattle.std.proofs.Common.{◌≡◌, map, drop}
+use Rattle.std.proofs.Common.{◌≡◌, drop}
 use Rattle.psc_expand.specs.Expand as spec
 use Rattle.psc_expand.proofs.ExpandRules.{onto}
 use Rattle.psc_expand.proofs.expanding.+expand.Given as goal

@@ -1,5 +1,5 @@
 use Rattle.psc_externs_words.specs.Words as words
-use Rattle.psc_externs_words.proofs.Appended.{more, last}
+use Rattle.psc_externs_words.proofs.Appended.{last}
 use Rattle.psc_externs_words.proofs.words.+kinds.Goals as goal
 
 pub put_before_kind-returns : goal.put_before_kind-returns

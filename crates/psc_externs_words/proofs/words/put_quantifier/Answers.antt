@@ -1,5 +1,5 @@
 use Rattle.psc_externs_words.specs.Words as words
-use Rattle.psc_externs_words.proofs.Appended.{more, last}
+use Rattle.psc_externs_words.proofs.Appended.{last}
 use Rattle.psc_externs_words.proofs.words.put_quantifier.Goals as goal
 
 pub returns : goal.returns
