@@ -2,7 +2,6 @@
 
 ghost use Rattle.std.specs.Prelude.{◌≡◌, ◌+◌, ◌++◌, IfOk, OnOk, codes, decimal};
 
-use crate::fault::Fault;
 use itoa::Buffer;
 use psc_core::Wants;
 use psc_items::SharedItems;
@@ -77,6 +76,11 @@ impl Wants for Counting {
     }
 }
 
+fn no_variables(alloc: Global) -> Result<Scope, NoMemory> {
+    let rigid = SharedItems::from_vec(alloc, Vec::new(alloc))?;
+    Ok(Scope { rigid })
+}
+
 fn some_constraint(alloc: Global) -> Result<Constraint, NoMemory> {
     let class = Qualified {
         module: None,
@@ -86,20 +90,43 @@ fn some_constraint(alloc: Global) -> Result<Constraint, NoMemory> {
     Ok(Constraint { class, args })
 }
 
-/// The names of two rigid variables, and the numbers of two unknowns and of a want.
-pub fn answers<W: Wants>(alloc: Global, wants: &mut W) -> Result<String, Fault> {
+/// Appends the name of a new rigid variable and a blank.
+fn put_rigid<W: Wants>(alloc: Global, wants: &mut W, out: &mut String) -> Result<(), NoMemory> {
     let name = Ident(Text::new(alloc, "a")?);
-    let scope = Scope {
-        rigid: SharedItems::from_vec(alloc, Vec::new(alloc))?,
-    };
+    let made = wants.rigid(alloc, &name, Kind::Star)?;
+    out.push_str(made.0.as_str())?;
+    out.push(' ')?;
+    Ok(())
+}
+
+/// Appends the number of a new unknown and a blank.
+fn put_unknown<W: Wants>(alloc: Global, wants: &mut W, out: &mut String) -> Result<u64, NoMemory> {
+    let scope = no_variables(alloc)?;
+    let number = wants.unknown(alloc, Kind::Star, &scope)?;
+    out.push_str(Buffer::new().format(number))?;
+    out.push(' ')?;
+    Ok(number)
+}
+
+/// Appends the number of a new want and a line end.
+fn put_want<W: Wants>(alloc: Global, wants: &mut W, out: &mut String) -> Result<(), NoMemory> {
+    let scope = no_variables(alloc)?;
     let constraint = some_constraint(alloc)?;
-    let first = wants.rigid(alloc, &name, Kind::Star)?;
-    let second = wants.rigid(alloc, &name, Kind::Star)?;
-    let unknown = wants.unknown(alloc, Kind::Star, &scope)?;
-    let other = wants.unknown(alloc, Kind::Star, &scope)?;
-    let (left, right) = (Ty::Unknown(unknown), Ty::Unknown(other));
+    let number = wants.want(alloc, &constraint, &[], &scope, Span::START)?;
+    out.push_str(Buffer::new().format(number))?;
+    out.push('\n')?;
+    Ok(())
+}
+
+/// The names of two rigid variables, and the numbers of two unknowns and of a want.
+pub fn answers<W: Wants>(alloc: Global, wants: &mut W) -> Result<String, NoMemory> {
+    let mut out = String::new(alloc);
+    put_rigid(alloc, wants, &mut out)?;
+    put_rigid(alloc, wants, &mut out)?;
+    let first = put_unknown(alloc, wants, &mut out)?;
+    let second = put_unknown(alloc, wants, &mut out)?;
+    let (left, right) = (Ty::Unknown(first), Ty::Unknown(second));
     wants.equation(alloc, &left, &right, Span::START)?;
-    let want = wants.want(alloc, &constraint, &[], &scope, Span::START)?;
-    let (first, second) = (first.0.as_str(), second.0.as_str());
-    Ok(format!(in alloc; "{first} {second} {unknown} {other} {want}\n")?)
+    put_want(alloc, wants, &mut out)?;
+    Ok(out)
 }
