@@ -67,8 +67,7 @@ pub fn read_kind(alloc: Global, words: &[Text]) -> Result<Option<ExternKind>, No
 pub fn read_constraint(alloc: Global, words: &[Text]) -> Result<Option<ExternConstraint>, NoMemory>
     ensures { IfOk result (λ o. (c : Constraint) → IsTrue (is_extern_constraint c) → spec.constraint_words c ≡ words.now → o ≡ Some c) }
 {
-    let ty = type_of(made_within(alloc, words)?);
-    extern_constraint(alloc, ty)
+    extern_constraint(alloc, type_of(made_within(alloc, words)?))
 }
 
 /// What the words make, where they are no more than an interface file may hold.
