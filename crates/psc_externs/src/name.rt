@@ -37,6 +37,7 @@ impl Name {
         }
     }
 
+    /// The name as a text.
     pub fn text(&self) -> &Text
         ensures same { result.now ≡ self.now }
         ensures name { IsTrue (spec.is_name self.now) }
@@ -44,6 +45,7 @@ impl Name {
         &self.text
     }
 
+    /// The name's characters.
     pub fn as_str(&self) -> &str
         ensures { result.now ≡ self.now }
     {

@@ -48,6 +48,7 @@ pub enum Entity {
 }
 
 impl Entity {
+    /// The name space that the name is in.
     pub fn space(&self) -> Space
         ensures { result ≡ spec.space_of self.now }
     {

@@ -1,13 +1,13 @@
 //! Types, kinds and constraints that may stand in an interface file: without unknowns and `$any`,
 //! with the module of each name that another module may have.
 
-ghost use Rattle.std.specs.Prelude.{◌≡◌, ◌↔◌, IsTrue, IsSome, IfSome};
+ghost use Rattle.std.specs.Prelude.{◌≡◌, ◌↔◌, IsTrue, IsSome, IfSome, Some};
 ghost use Rattle.psc_externs.specs.Written as spec;
 ghost use Rattle.psc_externs.specs.Names as names;
 
 use crate::name::is_name;
 use crate::sizes::{is_long, is_long_constraint, is_long_kind};
-use psc_text::{Ident, Qualified};
+use psc_text::{Ident, ModuleName, Qualified};
 use psc_type::{Constraint, Kind, Ty};
 use std::alloc::AllocError;
 use std::marker::Model;
@@ -48,6 +48,7 @@ impl ExternType {
         }
     }
 
+    /// The type, which may stand in an interface file.
     pub fn ty(&self) -> &Ty
         ensures same { result.now ≡ self.now }
         ensures written { IsTrue (spec.is_extern_type self.now) }
@@ -100,6 +101,7 @@ impl ExternKind {
         }
     }
 
+    /// The kind, which has no unknown.
     pub fn kind(&self) -> &Kind
         ensures same { result.now ≡ self.now }
         ensures known { IsTrue (spec.is_extern_kind self.now) }
@@ -153,6 +155,7 @@ impl ExternConstraint {
         }
     }
 
+    /// The constraint, which may stand in an interface file.
     pub fn constraint(&self) -> &Constraint
         ensures same { result.now ≡ self.now }
         ensures written { IsTrue (spec.is_extern_constraint self.now) }
@@ -176,10 +179,21 @@ fn is_ident(name: &Ident) -> bool
     is_name(name.0.as_str().as_bytes())
 }
 
+/// Whether the text is a module's name: each value of this type is one.
+fn is_module(name: &ModuleName) -> bool
+    ensures { result ≡ names.is_module (Some name.now) }
+{
+    let _upper_names = name.as_str();
+    true
+}
+
 fn is_true_name(name: &Qualified) -> bool
     ensures { result ≡ names.is_true_name name.now }
 {
-    name.module.is_some() && is_name(name.name.as_str().as_bytes())
+    match &name.module {
+        Some(module) => is_module(module) && is_name(name.name.as_str().as_bytes()),
+        None => false,
+    }
 }
 
 #[cycle(written)]

@@ -1,6 +1,8 @@
 -- Lists of rows, one row after another.
-use Rattle.std.proofs.Common.{◌≡◌, Bool, true, ◌&&◌, List, [], ◌∷◌, ◌++◌, map, refl, sym, ap, ap₂, ◌∙◌, append_assoc, append-nil}
+use Rattle.std.proofs.Common.{◌≡◌, ℕ, suc, ◌+◌, ◌<◌, ◌≤◌, Bool, true, ◌&&◌, List, [], ◌∷◌, ◌++◌, length, map, drop, drop-cons, get_or, Option, Some, None, refl, sym, ap, ap₂, ◌∙◌, subst, append_assoc, append-nil, arith}
 use Rattle.std.proofs.lemmas.Bool.{and_parts}
+use Rattle.std.proofs.lemmas.List.{drop_all}
+use Rattle.std.proofs.lemmas.Option.{none-some, same_Some}
 use Rattle.std.specs.List.{list_all}
 use Rattle.serde_json.specs.Data.{Data}
 use Rattle.serde_json.specs.View.{items_of}
@@ -24,48 +26,48 @@ items-same (x ∷ xs) (y ∷ ys) h =
     let rest : items_of xs ≡ items_of ys = cc in
     ap₂ (λ d (l : List Data). d ∷ l) first (items-same xs ys rest)
 
-no_more : (d : Data) (data : List Data) → d ∷ data ≡ [] → ⊥
-no_more d data h = cc
+no_more : (d : Data) (ds : List Data) → d ∷ ds ≡ [] → ⊥
+no_more d ds h = cc
 
-more_than_none : (d : Data) (data : List Data) → [] ≡ d ∷ data → ⊥
-more_than_none d data h = cc
+more_than_none : (d : Data) (ds : List Data) → [] ≡ d ∷ ds → ⊥
+more_than_none d ds h = cc
 
-first_same : (d e : Data) (data more : List Data) → d ∷ data ≡ e ∷ more → d ≡ e
-first_same d e data more h = cc
+first_same : (d e : Data) (ds more : List Data) → d ∷ ds ≡ e ∷ more → d ≡ e
+first_same d e ds more h = cc
 
-rest_same : (d e : Data) (data more : List Data) → d ∷ data ≡ e ∷ more → data ≡ more
-rest_same d e data more h = cc
+rest_same : (d e : Data) (ds more : List Data) → d ∷ ds ≡ e ∷ more → ds ≡ more
+rest_same d e ds more h = cc
 
 -- what is left to read of a list that is written as these data
-pub record IsLeft {A : Type 0} (json : A → Data) (keeps : A → Bool) (done whole : List A) (data : List Data) : Type 0 where
+pub record IsLeft {A : Type 0} (json : A → Data) (keeps : A → Bool) (done whole : List A) (ds : List Data) : Type 0 where
   pub left : List A
   pub joined : whole ≡ done ++ left
-  pub written : data ≡ map json left
+  pub written : ds ≡ map json left
   pub kept : list_all keeps left ≡ true
 
-pub none_done : {A : Type 0} (json : A → Data) (keeps : A → Bool) (whole : List A) (data : List Data) → list_all keeps whole ≡ true → data ≡ map json whole → IsLeft json keeps [] whole data
-none_done json keeps whole data h e = record { left = whole; joined = refl; written = e; kept = h }
+pub none_done : {A : Type 0} (json : A → Data) (keeps : A → Bool) (whole : List A) (ds : List Data) → list_all keeps whole ≡ true → ds ≡ map json whole → IsLeft json keeps [] whole ds
+none_done json keeps whole ds h e = record { left = whole; joined = refl; written = e; kept = h }
 
 -- the next row, where the first of the data is left
-pub record IsNext {A : Type 0} (json : A → Data) (keeps : A → Bool) (done whole : List A) (d : Data) (data : List Data) : Type 0 where
+pub record IsNext {A : Type 0} (json : A → Data) (keeps : A → Bool) (done whole : List A) (d : Data) (ds : List Data) : Type 0 where
   pub row : A
   pub is_row : d ≡ json row
   pub row_kept : keeps row ≡ true
-  pub further : IsLeft json keeps (done ++ row ∷ []) whole data
+  pub further : IsLeft json keeps (done ++ row ∷ []) whole ds
 
-next_of : {A : Type 0} (json : A → Data) (keeps : A → Bool) (done whole : List A) (d : Data) (data : List Data) (left : List A) → whole ≡ done ++ left → d ∷ data ≡ map json left → list_all keeps left ≡ true → IsNext json keeps done whole d data
-next_of json keeps done whole d data [] j w k = absurd (no_more d data w)
-next_of json keeps done whole d data (row ∷ left) j w k =
+next_of : {A : Type 0} (json : A → Data) (keeps : A → Bool) (done whole : List A) (d : Data) (ds : List Data) (left : List A) → whole ≡ done ++ left → d ∷ ds ≡ map json left → list_all keeps left ≡ true → IsNext json keeps done whole d ds
+next_of json keeps done whole d ds [] j w k = absurd (no_more d ds w)
+next_of json keeps done whole d ds (row ∷ left) j w k =
     let p = and_parts (keeps row) (list_all keeps left) k in
     record {
       row = row;
-      is_row = first_same d (json row) data (map json left) w;
+      is_row = first_same d (json row) ds (map json left) w;
       row_kept = p.0;
-      further = record { left = left; joined = j ∙ sym (append_assoc done (row ∷ []) left); written = rest_same d (json row) data (map json left) w; kept = p.1 };
+      further = record { left = left; joined = j ∙ sym (append_assoc done (row ∷ []) left); written = rest_same d (json row) ds (map json left) w; kept = p.1 };
     }
 
-pub next_row : {A : Type 0} (json : A → Data) (keeps : A → Bool) (done whole : List A) (d : Data) (data : List Data) → IsLeft json keeps done whole (d ∷ data) → IsNext json keeps done whole d data
-next_row json keeps done whole d data h = next_of json keeps done whole d data h.left h.joined h.written h.kept
+pub next_row : {A : Type 0} (json : A → Data) (keeps : A → Bool) (done whole : List A) (d : Data) (ds : List Data) → IsLeft json keeps done whole (d ∷ ds) → IsNext json keeps done whole d ds
+next_row json keeps done whole d ds h = next_of json keeps done whole d ds h.left h.joined h.written h.kept
 
 none_left : {A : Type 0} (json : A → Data) (left : List A) → [] ≡ map json left → left ≡ []
 none_left json [] h = refl
@@ -73,3 +75,29 @@ none_left json (x ∷ xs) h = absurd (more_than_none (json x) (map json xs) h)
 
 pub all_done : {A : Type 0} (json : A → Data) (keeps : A → Bool) (done whole : List A) → IsLeft json keeps done whole [] → done ≡ whole
 all_done json keeps done whole h = sym (h.joined ∙ ap (λ l. done ++ l) (none_left json h.left h.written) ∙ append-nil done)
+
+-- ---- one value after another
+
+first_of : {V : Type 0} (values : List V) (i : ℕ) (v : V) → i < length values → v ≡ get_or values i v → drop i values ≡ v ∷ drop (i + 1) values
+first_of values i v lt is =
+    let next : suc i ≡ i + 1 = omega arith in
+    drop-cons values i v lt ∙ ap₂ (λ x (l : List V). x ∷ l) (sym is) (ap (λ n. drop n values) next)
+
+-- the row that the value at this place is of
+pub row_at : {A V : Type 0} (json : A → Data) (keeps : A → Bool) (f : V → Data) (values : List V) (i : ℕ) (v : V) (done whole : List A) → i < length values → v ≡ get_or values i v → IsLeft json keeps done whole (map f (drop i values)) → IsNext json keeps done whole (f v) (map f (drop (i + 1) values))
+row_at json keeps f values i v done whole lt is h =
+    next_row json keeps done whole (f v) (map f (drop (i + 1) values)) (subst (λ l. IsLeft json keeps done whole (map f l)) (first_of values i v lt is) h)
+
+-- what is left where that row was read
+pub left_behind : {A : Type 0} (json : A → Data) (keeps : A → Bool) (done whole now : List A) (d : Data) (ds : List Data) (row : A) → IsNext json keeps done whole d ds → ((x : A) → keeps x ≡ true → d ≡ json x → Some row ≡ Some x) → now ≡ done ++ row ∷ [] → IsLeft json keeps now whole ds
+left_behind json keeps done whole now d ds row n read e =
+    let same : row ≡ n.row = same_Some row n.row (read n.row n.row_kept n.is_row) in
+    subst (λ l. IsLeft json keeps l whole ds) (sym (e ∙ ap (λ r. done ++ r ∷ []) same)) n.further
+
+-- a row is read where one is next
+pub not_lost : {A : Type 0} (json : A → Data) (keeps : A → Bool) (done whole : List A) (d : Data) (ds : List Data) → IsNext json keeps done whole d ds → ((x : A) → keeps x ≡ true → d ≡ json x → None ≡ Some x) → ⊥
+not_lost json keeps done whole d ds n read = none-some n.row (read n.row n.row_kept n.is_row)
+
+-- all rows are read where no value is left
+pub all_read : {A V : Type 0} (json : A → Data) (keeps : A → Bool) (f : V → Data) (values : List V) (i : ℕ) (done whole : List A) → length values ≤ i → IsLeft json keeps done whole (map f (drop i values)) → done ≡ whole
+all_read json keeps f values i done whole le h = all_done json keeps done whole (subst (λ l. IsLeft json keeps done whole (map f l)) (drop_all i values le) h)

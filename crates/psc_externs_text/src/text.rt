@@ -1,6 +1,6 @@
 //! The whole texts.
 
-ghost use Rattle.std.specs.Prelude.{◌≡◌, ◌↔◌, true, IfOk, Some, option_map};
+ghost use Rattle.std.specs.Prelude.{◌≡◌, ◌↔◌, true, IfOk, Some};
 ghost use Rattle.std.specs.Str.{IsUtf8};
 ghost use Rattle.serde_json.specs.Data.{Data};
 ghost use Rattle.serde_json.specs.Read.{read as read_text};
@@ -21,6 +21,7 @@ use serde_json::{Value, json};
 use std::alloc::Global;
 
 /// The text of an interface file.
+#[tactic(auto, using(crate::proofs::ReadBack::whole))]
 pub fn write(alloc: Global, externs: &Externs) -> Result<Text, NoMemory>
     ensures text { IfOk result (λ text. text ≡ spec.externs_text externs.now) }
     ensures kept { IfOk result (λ _. is_interface externs.now ≡ true) }
@@ -33,33 +34,34 @@ pub fn write(alloc: Global, externs: &Externs) -> Result<Text, NoMemory>
 pub fn read(alloc: Global, bytes: &[u8]) -> Result<Option<Externs>, NoMemory>
     ensures exactly { IfOk result (λ read. (e : Externs) → (read ≡ Some e) ↔ ((is_interface e ≡ true) × (spec.externs_text e ≡ bytes.now))) }
 {
-    match read_value(alloc, bytes)? {
-        Some(value) => match read_externs(alloc, &value)? {
-            Some(externs) => externs_if_same(alloc, externs, bytes),
-            None => Ok(None),
-        },
-        None => Ok(None),
-    }
+    let value = value_of(alloc, bytes)?;
+    externs_if_same(alloc, read_externs(alloc, &value)?, bytes)
 }
 
 /// The interface file, where its text is these bytes.
 fn externs_if_same(
     alloc: Global,
-    externs: Externs,
+    externs: Option<Externs>,
     bytes: &[u8],
 ) -> Result<Option<Externs>, NoMemory>
     ensures sound { IfOk result (λ o. (e : Externs) → o ≡ Some e → (is_interface e ≡ true) × (spec.externs_text e ≡ bytes.now)) }
-    ensures whole { IfOk result (λ o. spec.externs_text externs ≡ bytes.now → o ≡ Some externs) }
+    ensures whole { IfOk result (λ o. (e : Externs) → externs ≡ Some e → spec.externs_text e ≡ bytes.now → o ≡ Some e) }
 {
-    let text = write(alloc, &externs)?;
-    if text.as_str().as_bytes() == bytes {
-        Ok(Some(externs))
-    } else {
-        Ok(None)
+    match externs {
+        Some(externs) => {
+            let text = write(alloc, &externs)?;
+            if text.as_str().as_bytes() == bytes {
+                Ok(Some(externs))
+            } else {
+                Ok(None)
+            }
+        }
+        None => Ok(None),
     }
 }
 
 /// The text of a file of places.
+#[tactic(auto, using(crate::proofs::ReadBack::whole))]
 pub fn write_places(alloc: Global, places: &Places) -> Result<Text, NoMemory>
     ensures text { IfOk result (λ text. text ≡ spec.places_text places.now) }
     ensures kept { IfOk result (λ _. are_places places.now ≡ true) }
@@ -72,39 +74,43 @@ pub fn write_places(alloc: Global, places: &Places) -> Result<Text, NoMemory>
 pub fn read_places(alloc: Global, bytes: &[u8]) -> Result<Option<Places>, NoMemory>
     ensures exactly { IfOk result (λ read. (p : Places) → (read ≡ Some p) ↔ ((are_places p ≡ true) × (spec.places_text p ≡ bytes.now))) }
 {
-    match read_value(alloc, bytes)? {
-        Some(value) => match read_members(alloc, &value)? {
-            Some(places) => places_if_same(alloc, places, bytes),
-            None => Ok(None),
-        },
+    let value = value_of(alloc, bytes)?;
+    places_if_same(alloc, read_members(alloc, &value)?, bytes)
+}
+
+/// The places, where their text is these bytes.
+fn places_if_same(
+    alloc: Global,
+    places: Option<Places>,
+    bytes: &[u8],
+) -> Result<Option<Places>, NoMemory>
+    ensures sound { IfOk result (λ o. (p : Places) → o ≡ Some p → (are_places p ≡ true) × (spec.places_text p ≡ bytes.now)) }
+    ensures whole { IfOk result (λ o. (p : Places) → places ≡ Some p → spec.places_text p ≡ bytes.now → o ≡ Some p) }
+{
+    match places {
+        Some(places) => {
+            let text = write_places(alloc, &places)?;
+            if text.as_str().as_bytes() == bytes {
+                Ok(Some(places))
+            } else {
+                Ok(None)
+            }
+        }
         None => Ok(None),
     }
 }
 
-/// The places, where their text is these bytes.
-fn places_if_same(alloc: Global, places: Places, bytes: &[u8]) -> Result<Option<Places>, NoMemory>
-    ensures sound { IfOk result (λ o. (p : Places) → o ≡ Some p → (are_places p ≡ true) × (spec.places_text p ≡ bytes.now)) }
-    ensures whole { IfOk result (λ o. spec.places_text places ≡ bytes.now → o ≡ Some places) }
-{
-    let text = write_places(alloc, &places)?;
-    if text.as_str().as_bytes() == bytes {
-        Ok(Some(places))
-    } else {
-        Ok(None)
-    }
-}
-
-/// The JSON value of the bytes. None where they are not JSON.
-fn read_value(alloc: Global, bytes: &[u8]) -> Result<Option<Value>, NoMemory>
-    ensures { IfOk result (λ o. (d : Data) → IsUtf8 bytes.now → read_text bytes.now ≡ Some d → option_map (λ v. view v) o ≡ Some d) }
+/// The JSON value of the bytes: null where they are not JSON, as no file is.
+fn value_of(alloc: Global, bytes: &[u8]) -> Result<Value, NoMemory>
+    ensures { IfOk result (λ v. (d : Data) → IsUtf8 bytes.now → read_text bytes.now ≡ Some d → view v ≡ d) }
 {
     match Value::from_slice(alloc, bytes) {
-        Ok(value) => Ok(Some(value)),
+        Ok(value) => Ok(value),
         Err(error) => {
             if error.is_memory() {
                 Err(NoMemory)
             } else {
-                Ok(None)
+                Ok(Value::Null)
             }
         }
     }
@@ -155,17 +161,27 @@ fn places_value(alloc: Global, places: &Places) -> Result<Value, NoMemory>
 fn read_externs(alloc: Global, value: &Value) -> Result<Option<Externs>, NoMemory>
     ensures { IfOk result (λ o. (e : Externs) → is_interface e ≡ true → view value.now ≡ spec.externs e → o ≡ Some e) }
 {
+    let classes = list_member(alloc, value, "classes")?;
+    let constructors = list_member(alloc, value, "constructors")?;
+    let exports = list_member(alloc, value, "exports")?;
+    let fixities = list_member(alloc, value, "fixities")?;
+    let imports = list_member(alloc, value, "imports")?;
+    let instances = list_member(alloc, value, "instances")?;
+    let module = member(alloc, value, "module")?;
+    let synonyms = list_member(alloc, value, "synonyms")?;
+    let types = list_member(alloc, value, "types")?;
+    let values = list_member(alloc, value, "values")?;
     let parts = Parts {
-        classes: list_member(alloc, value, "classes")?,
-        constructors: list_member(alloc, value, "constructors")?,
-        exports: list_member(alloc, value, "exports")?,
-        fixities: list_member(alloc, value, "fixities")?,
-        imports: list_member(alloc, value, "imports")?,
-        instances: list_member(alloc, value, "instances")?,
-        module: member(alloc, value, "module")?,
-        synonyms: list_member(alloc, value, "synonyms")?,
-        types: list_member(alloc, value, "types")?,
-        values: list_member(alloc, value, "values")?,
+        classes,
+        constructors,
+        exports,
+        fixities,
+        imports,
+        instances,
+        module,
+        synonyms,
+        types,
+        values,
     };
     Ok(externs_of(parts))
 }

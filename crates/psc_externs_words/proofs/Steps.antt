@@ -111,7 +111,7 @@ pub cut-at : (m n : List ℕ) → has_dot n ≡ false → cut (m ++ (codes "." +
 cut-at [] n h = rw (cut-none n h)
 cut-at (c ∷ m) n h = rw (cut-at m n h)
 
-no_dot : (n : List ℕ) → is_name n ≡ true → has_dot n ≡ false
+pub no_dot : (n : List ℕ) → is_name n ≡ true → has_dot n ≡ false
 no_dot n h = not-true _ (and_parts _ _ h).1
 
 qualified-at : (m : Option (List ℕ)) (n : List ℕ) → (is_module m && is_name n) ≡ true → qualified (text_in m n) ≡ Some (record { «module» = m; name = n })

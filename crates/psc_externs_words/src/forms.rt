@@ -2,20 +2,21 @@
 //!
 //! A list of more than 20,000 words is not read, since what it makes might be too deep.
 
-ghost use Rattle.std.specs.Prelude.{◌≡◌, ◌≤◌, length, IfOk, IsTrue, Some};
+ghost use Rattle.std.specs.Prelude.{◌≡◌, ◌≤◌, length, IfOk, IsTrue, Some, option_and_then};
 ghost use Rattle.psc_type.specs.declared.kind.Kind.{Kind};
 ghost use Rattle.psc_type.specs.declared.ty.Constraint.{Constraint};
 ghost use Rattle.psc_type.specs.declared.ty.Ty.{Ty};
 ghost use Rattle.psc_externs.specs.Written.{is_extern_constraint, is_extern_kind, is_extern_type};
 ghost use Rattle.psc_externs_words.specs.Reading as reading;
 ghost use Rattle.psc_externs_words.specs.Words as spec;
+ghost use Rattle.psc_externs_words.specs.declared.stack.Item.TheVariants.{OfKind, OfType};
 
 use crate::stack::Item;
 use crate::words::{put_constraint, put_kind, put_type};
 use crate::words_read::{constraint_of, made};
 use psc_externs::{ExternConstraint, ExternKind, ExternType, MOST_WORDS};
 use psc_text::{NoMemory, Text};
-use psc_type::Ty;
+use psc_type::{Kind, Ty};
 use std::alloc::Global;
 
 /// The words of a type.
@@ -52,30 +53,21 @@ pub fn constraint_words(alloc: Global, given: &ExternConstraint) -> Result<Vec<T
 pub fn read_type(alloc: Global, words: &[Text]) -> Result<Option<ExternType>, NoMemory>
     ensures { IfOk result (λ o. (t : Ty) → IsTrue (is_extern_type t) → spec.words t ≡ words.now → o ≡ Some t) }
 {
-    match made_within(alloc, words)? {
-        Some(Item::OfType(ty)) => Ok(ExternType::new(ty)),
-        Some(Item::OfKind(_)) | None => Ok(None),
-    }
+    Ok(extern_type(type_of(made_within(alloc, words)?)))
 }
 
 /// The kind that has these words.
 pub fn read_kind(alloc: Global, words: &[Text]) -> Result<Option<ExternKind>, NoMemory>
     ensures { IfOk result (λ o. (k : Kind) → IsTrue (is_extern_kind k) → spec.kind_words k ≡ words.now → o ≡ Some k) }
 {
-    match made_within(alloc, words)? {
-        Some(Item::OfKind(kind)) => Ok(ExternKind::new(kind)),
-        Some(Item::OfType(_)) | None => Ok(None),
-    }
+    Ok(extern_kind(kind_of(made_within(alloc, words)?)))
 }
 
 /// The constraint that has these words.
 pub fn read_constraint(alloc: Global, words: &[Text]) -> Result<Option<ExternConstraint>, NoMemory>
     ensures { IfOk result (λ o. (c : Constraint) → IsTrue (is_extern_constraint c) → spec.constraint_words c ≡ words.now → o ≡ Some c) }
 {
-    match made_within(alloc, words)? {
-        Some(Item::OfType(ty)) => extern_constraint(alloc, &ty),
-        Some(Item::OfKind(_)) | None => Ok(None),
-    }
+    extern_constraint(alloc, type_of(made_within(alloc, words)?))
 }
 
 /// What the words make, where they are no more than an interface file may hold.
@@ -89,12 +81,49 @@ fn made_within(alloc: Global, words: &[Text]) -> Result<Option<Item>, NoMemory>
     }
 }
 
-/// A class applied to its arguments, as an interface file holds it.
-fn extern_constraint(alloc: Global, ty: &Ty) -> Result<Option<ExternConstraint>, NoMemory>
-    ensures { IfOk result (λ o. (c : Constraint) → IsTrue (is_extern_constraint c) → reading.constraint_of ty.now ≡ Some c → o ≡ Some c) }
+/// The type that words have made.
+fn type_of(item: Option<Item>) -> Option<Ty>
+    ensures { (t : Ty) → item ≡ Some (OfType t) → result ≡ Some t }
 {
-    match constraint_of(alloc, ty)? {
-        Some(constraint) => Ok(ExternConstraint::new(constraint)),
+    match item {
+        Some(Item::OfType(ty)) => Some(ty),
+        Some(Item::OfKind(_)) | None => None,
+    }
+}
+
+/// The kind that words have made.
+fn kind_of(item: Option<Item>) -> Option<Kind>
+    ensures { (k : Kind) → item ≡ Some (OfKind k) → result ≡ Some k }
+{
+    match item {
+        Some(Item::OfKind(kind)) => Some(kind),
+        Some(Item::OfType(_)) | None => None,
+    }
+}
+
+/// The type, where an interface file may hold it.
+fn extern_type(ty: Option<Ty>) -> Option<ExternType>
+    ensures { (t : Ty) → IsTrue (is_extern_type t) → ty ≡ Some t → result ≡ Some t }
+{
+    ExternType::new(ty?)
+}
+
+/// The kind, where an interface file may hold it.
+fn extern_kind(kind: Option<Kind>) -> Option<ExternKind>
+    ensures { (k : Kind) → IsTrue (is_extern_kind k) → kind ≡ Some k → result ≡ Some k }
+{
+    ExternKind::new(kind?)
+}
+
+/// A class applied to its arguments, where an interface file may hold it.
+fn extern_constraint(alloc: Global, ty: Option<Ty>) -> Result<Option<ExternConstraint>, NoMemory>
+    ensures { IfOk result (λ o. (c : Constraint) → IsTrue (is_extern_constraint c) → option_and_then reading.constraint_of ty ≡ Some c → o ≡ Some c) }
+{
+    match ty {
+        Some(ty) => match constraint_of(alloc, &ty)? {
+            Some(constraint) => Ok(ExternConstraint::new(constraint)),
+            None => Ok(None),
+        },
         None => Ok(None),
     }
 }

@@ -264,7 +264,8 @@ pub(crate) fn made(alloc: Global, words: &[Text]) -> Result<Option<Item>, NoMemo
 {
     let mut stack = Vec::new(alloc);
     for turn in 0..words.len() {
-        let word = words[words.len() - 1 - turn].as_str();
+        let place = words.len() - 1 - turn;
+        let word = words[place].as_str();
         match step(alloc, word, stack)? {
             Some(more) => stack = more,
             None => return Ok(None),
