@@ -1,7 +1,7 @@
 -- Words from the last to the first, one more at each turn.
-use Rattle.std.proofs.Common.{◌≡◌, ℕ, zero, suc, ◌+◌, ◌-◌, ◌<◌, List, [], ◌∷◌, length, drop, get_or, drop-cons, Some, None, option_and_then, ap, ◌∙◌, arith}
+use Rattle.std.proofs.Common.{◌≡◌, ℕ, zero, suc, ◌+◌, ◌-◌, ◌<◌, ◌≤◌, List, [], ◌∷◌, length, drop, get_or, drop-cons, Option, Some, None, option_and_then, sym, ap, ◌∙◌, arith}
 use Rattle.std.proofs.Math.Seq.{drop-length}
-use Rattle.psc_externs_words.specs.Reading.{Stack, run, step}
+use Rattle.psc_externs_words.specs.Reading.{Stack, lone, made, run, step}
 use Rattle.psc_externs_words.specs.Words.{Words}
 
 pub run-start : (ws : Words) → run (drop (length ws - 0) ws) [] ≡ Some []
@@ -25,3 +25,15 @@ unfolding run
 run-lost zero ws h = h
 run-lost (suc n) [] h = h
 run-lost (suc n) (w ∷ ws) h = ap (option_and_then (step w)) (run-lost n ws h)
+
+-- the word at this turn does its step
+pub run-word : (ws : Words) (turn : ℕ) (w word : List ℕ) (st : Stack) (o : Option Stack) → turn < length ws → run (drop (length ws - turn) ws) [] ≡ Some st → w ≡ get_or ws (length ws - 1 - turn) w → word ≡ w → o ≡ step word st → run (drop (length ws - (turn + 1)) ws) [] ≡ o
+run-word ws turn w word st o lt e is same did = run-turn ws turn w st lt e ∙ ap (λ v. step v st) (sym is ∙ sym same) ∙ sym did
+
+pub made-none : (ws : Words) (n : ℕ) → run (drop n ws) [] ≡ None → made ws ≡ None
+made-none ws n h = ap (option_and_then lone) (run-lost n ws h)
+
+pub made-all : (ws : Words) (turn : ℕ) (st : Stack) → length ws ≤ turn → run (drop (length ws - turn) ws) [] ≡ Some st → made ws ≡ lone st
+made-all ws turn st le h =
+    let none : length ws - turn ≡ 0 = omega arith in
+    ap (option_and_then lone) (sym (ap (λ n. run (drop n ws) []) none) ∙ h)
