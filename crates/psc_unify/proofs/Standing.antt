@@ -54,5 +54,9 @@ none_slice us sl a b g h n m o kinds eqs is nodes list same step plain st =
     subst (λ (x : Names). HasNone x kinds ((a, b) ∷ eqs)) (sym same)
     (step (plain_slice us sl a b is plain) kinds eqs (subst (λ (u : List ℕ). Stands h n u kinds eqs) (sym is) (stands_graph g h n us kinds eqs nodes list st)))
 
+-- more names have numbers, and there is still none
+pub none_named : (old new : Names) (kinds : List ℕ) (eqs : List (Ty × Ty)) → Continues old new → HasNone old kinds eqs → HasNone new kinds eqs
+none_named old new kinds eqs c h = λ e fits. h e (fits_before e old new c fits)
+
 pub none_state : (s t : State) (kinds : List ℕ) (eqs : List (Ty × Ty)) → t ≡ s → HasNone s.names kinds eqs → HasNone t.names kinds eqs
 none_state s t kinds eqs is h = subst (λ (x : State). HasNone x.names kinds eqs) (sym is) h

@@ -24,6 +24,7 @@ pub fn relate(
 ) -> Result<bool, NoMemory>
     ensures solved { result ≡ Ok true → ArePlain unknowns.now a.now b.now → (kinds : List ℕ) (eqs : List (Ty × Ty)) → Stands graph.old names.old unknowns.now kinds eqs → Stands graph.new names.new unknowns.now kinds ((a.now, b.now) ∷ eqs) }
     ensures clash { result ≡ Ok false → ArePlain unknowns.now a.now b.now → (kinds : List ℕ) (eqs : List (Ty × Ty)) → Stands graph.old names.old unknowns.now kinds eqs → HasNone names.new kinds ((a.now, b.now) ∷ eqs) }
+    ensures names { OnOk result (Continues names.old names.new) }
 {
     let mut binders = Vec::new(alloc);
     let left = add_type(graph, names, unknowns, &mut binders, a)?;

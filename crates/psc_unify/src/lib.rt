@@ -9,12 +9,13 @@ mod add;
 mod equate;
 mod kinds;
 mod names;
+mod opened;
 mod read;
 mod solver;
 mod state;
 mod tables;
 
-pub use solver::{Clash, Solver, TypeKind};
-
 #[cfg(test)]
 mod tests;
+
+pub use solver::{Clash, Solver, TypeKind};

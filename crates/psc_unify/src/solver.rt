@@ -1,12 +1,13 @@
 // The solver's calls. After want of memory it is spent; after a clash it answers that clash.
 
-ghost use Rattle.std.specs.Prelude.{◌≡◌, ℕ, ◌<◌, List, [], ◌∷◌, ◌++◌, length, Option, None, Some, OnOk, IfOk, Ok, Err, true, false};
+ghost use Rattle.std.specs.Prelude.{◌≡◌, ℕ, ◌<◌, ◌≤◌, List, [], ◌∷◌, ◌++◌, length, Option, None, Some, OnOk, OnErr, IfOk, Ok, Err, true, false};
 ghost use Rattle.psc_type.specs.declared.ty.Ty.{Ty};
 ghost use Rattle.psc_unify.specs.Solved.{Stands, HasNone, ArePlain, Continues};
 ghost use Rattle.psc_unify.specs.Promise.{IsSolved, IsUnsolvable, ArePlainIn, IsValue};
 
 use crate::equate::{narrow_bound, relate};
 use crate::names::Constant;
+use crate::opened::Opened;
 use crate::read::Reader;
 use crate::state::{State, scope_number};
 use crate::tables::Names;
@@ -70,20 +71,67 @@ fn copy_clash(clash: &Clash) -> Result<Clash, NoMemory>
     })
 }
 
-/// Takes an equation back: the nodes past the first `length`, and what was written since.
-fn take_back(state: &mut State, length: usize)
-    ensures { state.new.names ≡ state.old.names }
+/// Takes an equation back: the nodes past the first `count`, and what was written since.
+fn take_back(state: &mut State, count: usize) -> Result<(), NoMemory>
+    ensures names { state.new.names ≡ state.old.names }
+    ensures before { OnOk result (length state.new.graph.nodes.items ≤ count) }
 {
-    state.graph.take_back(0, length);
-    state.bounds.take_back(length);
+    state.graph.take_back(0, count);
+    state.bounds.take_back(count);
+    if count < state.graph.nodes.len() {
+        return Err(NoMemory);
+    }
+    Ok(())
+}
+
+/// Whether both types can be made equal where binders are compared with rigid variables that any unknown
+/// may take. What was solved is taken back.
+fn is_solved_opened(alloc: Global, state: &mut State, a: &Ty, b: &Ty) -> Result<bool, NoMemory>
+    ensures names { OnOk result (Continues state.old.names state.new.names) }
+    ensures before { OnOk result (length state.new.graph.nodes.items ≤ length state.old.graph.nodes.items) }
+{
+    let mut opened = Opened::new(alloc);
+    let left = opened.whole(a)?;
+    let right = opened.whole(b)?;
+    if opened.is_empty() {
+        return Ok(false);
+    }
+    opened.name_all(&mut state.names)?;
+    let count = state.graph.nodes.len();
+    state.graph.writes.clear();
+    let solved = relate(
+        alloc,
+        &mut state.graph,
+        &mut state.names,
+        state.unknowns.as_slice(),
+        &left,
+        &right,
+    )?;
+    take_back(state, count)?;
+    Ok(solved)
+}
+
+/// Ends an equation without a solution: an unknown may only have met the variable of a binder.
+fn end_clashed(alloc: Global, state: &mut State, a: &Ty, b: &Ty) -> Result<Ended, NoMemory>
+    ensures names { OnOk result (Continues state.old.names state.new.names) }
+    ensures before { OnOk result (length state.new.graph.nodes.items ≤ length state.old.graph.nodes.items) }
+    ensures unsolved { result ≡ Ok Ended.Solved → ⊥ }
+{
+    let solved = is_solved_opened(alloc, state, a, b)?;
+    if solved {
+        return Ok(Ended::Escaped);
+    }
+    Ok(Ended::Clashed)
 }
 
 /// Adds an equation. After a clash the state is as it was before.
 fn add_equation(alloc: Global, state: &mut State, a: &Ty, b: &Ty) -> Result<Ended, NoMemory>
     ensures solved { result ≡ Ok Ended.Solved → ArePlain state.old.unknowns.items a.now b.now → (kinds : List ℕ) (eqs : List (Ty × Ty)) → Stands state.old.graph state.old.names state.old.unknowns.items kinds eqs → Stands state.new.graph state.new.names state.new.unknowns.items kinds ((a.now, b.now) ∷ eqs) }
     ensures clash { result ≡ Ok Ended.Clashed → ArePlain state.old.unknowns.items a.now b.now → (kinds : List ℕ) (eqs : List (Ty × Ty)) → Stands state.old.graph state.old.names state.old.unknowns.items kinds eqs → HasNone state.new.names kinds ((a.now, b.now) ∷ eqs) }
+    ensures clash_before { result ≡ Ok Ended.Clashed → length state.new.graph.nodes.items ≤ length state.old.graph.nodes.items }
+    ensures escape_before { result ≡ Ok Ended.Escaped → length state.new.graph.nodes.items ≤ length state.old.graph.nodes.items }
 {
-    let length = state.graph.nodes.len();
+    let count = state.graph.nodes.len();
     state.graph.writes.clear();
     state.bounds.keep();
     let solved = relate(
@@ -95,13 +143,14 @@ fn add_equation(alloc: Global, state: &mut State, a: &Ty, b: &Ty) -> Result<Ende
         b,
     )?;
     if !solved {
-        take_back(state, length);
-        return Ok(Ended::Clashed);
+        take_back(state, count)?;
+        let ended = end_clashed(alloc, state, a, b)?;
+        return Ok(ended);
     }
     match narrow_bound(alloc, &state.graph, &mut state.scopes, &mut state.bounds) {
         Ok(()) => Ok(Ended::Solved),
         Err(Stop::Clash) => {
-            take_back(state, length);
+            take_back(state, count)?;
             Ok(Ended::Escaped)
         }
         Err(Stop::Memory) => Err(NoMemory),
@@ -147,7 +196,10 @@ impl Solver {
     /// A new rigid variable, whose name is the given one, `$` and the number of rigid variables before
     /// it. After want of memory here, in `fresh` or in `equate`, every call answers it.
     pub fn rigid(&mut self, alloc: Global, name: &Ident, kind: Kind) -> Result<Ident, NoMemory>
-        ensures { OnOk result ((kinds : List ℕ) (eqs : List (Ty × Ty)) → IsSolved self.old kinds eqs → IsSolved self.new kinds eqs) }
+        ensures solved { OnOk result ((kinds : List ℕ) (eqs : List (Ty × Ty)) → IsSolved self.old kinds eqs → IsSolved self.new kinds eqs) }
+        ensures stays { self.new.clash ≡ self.old.clash }
+        ensures spent { self.old.is_spent ≡ true → (self.new.is_spent ≡ true) × OnOk result ⊥ }
+        ensures spends { OnErr result (self.new.is_spent ≡ true) }
     {
         if self.is_spent {
             return Err(NoMemory);
@@ -168,6 +220,9 @@ impl Solver {
     pub fn fresh(&mut self, alloc: Global, kind: Kind, scope: &Scope) -> Result<u64, NoMemory>
         ensures number { IfOk result (λ number. (kinds : List ℕ) (eqs : List (Ty × Ty)) → IsSolved self.old kinds eqs → number ≡ length kinds) }
         ensures solved { OnOk result ((kinds : List ℕ) (eqs : List (Ty × Ty)) → IsSolved self.old kinds eqs → (k : ℕ) × IsSolved self.new (kinds ++ k ∷ []) eqs) }
+        ensures stays { self.new.clash ≡ self.old.clash }
+        ensures spent { self.old.is_spent ≡ true → (self.new.is_spent ≡ true) × OnOk result ⊥ }
+        ensures spends { OnErr result (self.new.is_spent ≡ true) }
     {
         if self.is_spent {
             return Err(NoMemory);
@@ -197,6 +252,7 @@ impl Solver {
     ) -> Result<Clash, NoMemory>
         ensures clash { IfOk result (λ clash. clash.scopes_only ≡ scopes_only) }
         ensures state { self.new.state ≡ self.old.state }
+        ensures kept { IfOk result (λ clash. self.new.clash ≡ Some clash) }
     {
         let clash = clash_of(alloc, &self.state, a, b, scopes_only)?;
         let copy = copy_clash(&clash)?;
@@ -207,6 +263,9 @@ impl Solver {
     fn try_equate(&mut self, alloc: Global, a: &Ty, b: &Ty) -> Result<Result<(), Clash>, NoMemory>
         ensures solved { result ≡ Ok (Ok tt) → ArePlainIn self.old a.now b.now → (kinds : List ℕ) (eqs : List (Ty × Ty)) → IsSolved self.old kinds eqs → IsSolved self.new kinds ((a.now, b.now) ∷ eqs) }
         ensures clash { (clash : Clash) → result ≡ Ok (Err clash) → clash.scopes_only ≡ false → ArePlainIn self.old a.now b.now → (kinds : List ℕ) (eqs : List (Ty × Ty)) → IsSolved self.old kinds eqs → IsUnsolvable self.new kinds ((a.now, b.now) ∷ eqs) }
+        ensures stays { (clash : Clash) → self.old.clash ≡ Some clash → (self.new.clash ≡ Some clash) × IfOk result (λ r. r ≡ Err clash) }
+        ensures kept { (clash : Clash) → result ≡ Ok (Err clash) → self.new.clash ≡ Some clash }
+        ensures before { (clash : Clash) → result ≡ Ok (Err clash) → length self.new.state.graph.nodes.items ≤ length self.old.state.graph.nodes.items }
     {
         if let Some(clash) = &self.clash {
             let copy = copy_clash(clash)?;
@@ -231,6 +290,11 @@ impl Solver {
     pub fn equate(&mut self, alloc: Global, a: &Ty, b: &Ty) -> Result<Result<(), Clash>, NoMemory>
         ensures solved { result ≡ Ok (Ok tt) → ArePlainIn self.old a.now b.now → (kinds : List ℕ) (eqs : List (Ty × Ty)) → IsSolved self.old kinds eqs → IsSolved self.new kinds ((a.now, b.now) ∷ eqs) }
         ensures clash { (clash : Clash) → result ≡ Ok (Err clash) → clash.scopes_only ≡ false → ArePlainIn self.old a.now b.now → (kinds : List ℕ) (eqs : List (Ty × Ty)) → IsSolved self.old kinds eqs → IsUnsolvable self.new kinds ((a.now, b.now) ∷ eqs) }
+        ensures stays { (clash : Clash) → self.old.clash ≡ Some clash → (self.new.clash ≡ Some clash) × IfOk result (λ r. r ≡ Err clash) }
+        ensures kept { (clash : Clash) → result ≡ Ok (Err clash) → self.new.clash ≡ Some clash }
+        ensures spent { self.old.is_spent ≡ true → (self.new.is_spent ≡ true) × OnOk result ⊥ }
+        ensures spends { OnErr result (self.new.is_spent ≡ true) }
+        ensures before { (clash : Clash) → result ≡ Ok (Err clash) → length self.new.state.graph.nodes.items ≤ length self.old.state.graph.nodes.items }
     {
         if self.is_spent {
             return Err(NoMemory);
@@ -244,7 +308,8 @@ impl Solver {
     /// The value of an unknown in a most general solution of the equations so far. For an unknown that
     /// is not of this solver it answers want of memory.
     pub fn value(&self, alloc: Global, unknown: u64) -> Result<Ty, NoMemory>
-        ensures { IfOk result (λ ty. (kinds : List ℕ) (eqs : List (Ty × Ty)) → IsSolved self.now kinds eqs → unknown < length kinds → IsValue self.now unknown ty) }
+        ensures value { IfOk result (λ ty. (kinds : List ℕ) (eqs : List (Ty × Ty)) → IsSolved self.now kinds eqs → unknown < length kinds → IsValue self.now unknown ty) }
+        ensures spent { self.now.is_spent ≡ true → OnOk result ⊥ }
     {
         if self.is_spent {
             return Err(NoMemory);
