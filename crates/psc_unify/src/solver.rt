@@ -84,19 +84,30 @@ fn take_back(state: &mut State, count: usize) -> Result<(), NoMemory>
     Ok(())
 }
 
-/// Whether both types can be made equal where binders are compared with rigid variables that any unknown
-/// may take. What was solved is taken back.
-fn is_solved_opened(alloc: Global, state: &mut State, a: &Ty, b: &Ty) -> Result<bool, NoMemory>
-    ensures names { OnOk result (Continues state.old.names state.new.names) }
-    ensures before { OnOk result (length state.new.graph.nodes.items ≤ length state.old.graph.nodes.items) }
+/// Both types with their binders opened. None where there are no binders.
+fn open_both(
+    alloc: Global,
+    names: &mut Names,
+    a: &Ty,
+    b: &Ty,
+) -> Result<Option<(Ty, Ty)>, NoMemory>
+    ensures { OnOk result (Continues names.old names.new) }
 {
     let mut opened = Opened::new(alloc);
     let left = opened.whole(a)?;
     let right = opened.whole(b)?;
     if opened.is_empty() {
-        return Ok(false);
+        return Ok(None);
     }
-    opened.name_all(&mut state.names)?;
+    opened.name_all(names)?;
+    Ok(Some((left, right)))
+}
+
+/// Whether both types can be made equal. What was solved is taken back.
+fn is_solved(alloc: Global, state: &mut State, a: &Ty, b: &Ty) -> Result<bool, NoMemory>
+    ensures names { OnOk result (Continues state.old.names state.new.names) }
+    ensures before { OnOk result (length state.new.graph.nodes.items ≤ length state.old.graph.nodes.items) }
+{
     let count = state.graph.nodes.len();
     state.graph.writes.clear();
     let solved = relate(
@@ -104,20 +115,25 @@ fn is_solved_opened(alloc: Global, state: &mut State, a: &Ty, b: &Ty) -> Result<
         &mut state.graph,
         &mut state.names,
         state.unknowns.as_slice(),
-        &left,
-        &right,
+        a,
+        b,
     )?;
     take_back(state, count)?;
     Ok(solved)
 }
 
-/// Ends an equation without a solution: an unknown may only have met the variable of a binder.
+/// Ends an equation without a solution. It is one of scopes only where binders, compared with rigid
+/// variables that any unknown may take, leave one.
 fn end_clashed(alloc: Global, state: &mut State, a: &Ty, b: &Ty) -> Result<Ended, NoMemory>
     ensures names { OnOk result (Continues state.old.names state.new.names) }
     ensures before { OnOk result (length state.new.graph.nodes.items ≤ length state.old.graph.nodes.items) }
     ensures unsolved { result ≡ Ok Ended.Solved → ⊥ }
 {
-    let solved = is_solved_opened(alloc, state, a, b)?;
+    let sides = open_both(alloc, &mut state.names, a, b)?;
+    let Some((left, right)) = sides else {
+        return Ok(Ended::Clashed);
+    };
+    let solved = is_solved(alloc, state, &left, &right)?;
     if solved {
         return Ok(Ended::Escaped);
     }
