@@ -1,5 +1,5 @@
 -- Binders.
-use Rattle.std.specs.Prelude.{ℕ, List, ◌++◌, map, codes}
+use Rattle.std.specs.Prelude.{ℕ, List, ◌++◌, codes}
 use Rattle.psc_text.specs.declared.names.Ident.{Ident}
 use Rattle.psc_text.specs.declared.names.Qualified.{Qualified}
 use Rattle.psc_core_tree.specs.declared.ann.Ann.{Ann}

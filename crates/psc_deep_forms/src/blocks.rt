@@ -5,7 +5,7 @@ ghost use Rattle.psc_deep_forms.specs.Goals as spec;
 
 use crate::exprs::EXPR;
 use crate::goal::{Goal, Steps, Widths};
-use crate::read::{Reader, behind_name, tail};
+use crate::read::{Reader, behind_name};
 use psc_lex::Sign;
 use psc_parse_atom::is_scrutinee_hole;
 use psc_parse_base::{

@@ -8,7 +8,6 @@ use Rattle.psc_graph.specs.declared.node.Node.{Node}
 use Rattle.psc_graph.specs.declared.node.Node.TheVariants.{Free, Link, Atom, Join, Field}
 use Rattle.psc_graph.specs.declared.node.Former.{Former}
 use Rattle.psc_graph.specs.declared.node.Former.TheVariants.{Argument}
-use Rattle.psc_graph.specs.declared.node.Leaf.{Leaf}
 use Rattle.psc_graph.proofs.Nodes.{at_join, at_field}
 use Rattle.psc_graph.proofs.Trees.{size-put}
 use Rattle.psc_graph.proofs.Writes.{before_write}

@@ -1,7 +1,7 @@
 -- A link that leads to a link leads on to that one's end.
 use Rattle.std.proofs.Common.{◌≡◌, ℕ, List, Option, Some, length, length-set, slice_get, slice_set, ap, sym, ◌∙◌, inl, inr}
 use Rattle.psc_graph.specs.Tree.{Tree, Hole, TAtom, TJoin, TField}
-use Rattle.psc_graph.specs.Model.{Solves, Meets, IsOwn}
+use Rattle.psc_graph.specs.Model.{Solves, IsOwn}
 use Rattle.psc_graph.specs.General.{IsReady, IsSolution}
 use Rattle.psc_graph.specs.declared.node.Node.{Node}
 use Rattle.psc_graph.specs.declared.node.Node.TheVariants.{Free, Link}

@@ -1,7 +1,7 @@
 // Small calls on lists of nodes and of tasks, each with one equation.
 ghost use Rattle.std.specs.Prelude.{◌≡◌, OnOk, Err, MatchOption, IsTrue, ◌↔◌, [], ◌∷◌, ◌++◌};
 
-use crate::node::{Former, Leaf, Node, Stop, Task};
+use crate::node::{Former, Leaf, Stop, Task};
 
 /// Adds a task.
 pub fn add(work: &mut Vec<Task>, task: Task) -> Result<(), Stop>

@@ -6,9 +6,9 @@ use Rattle.std.proofs.lemmas.Bool.{false≢true}
 use Rattle.std.proofs.lemmas.List.Splits.{length-slice_split}
 use Rattle.psc_js_names.specs.Names.{letter, letters, mark, printed, behind, local, parts, alias}
 use Rattle.psc_js_names.specs.Reserved.{is_reserved}
-use Rattle.psc_js_names.specs.Kinds.{IsSourceName, IsPart, AreParts, IsMadeName, IsInstanceName, IsName, IsLocalName, HasTopNames, begins_hex, is_small}
+use Rattle.psc_js_names.specs.Kinds.{IsSourceName, IsPart, AreParts, IsMadeName, IsInstanceName, IsName, IsLocalName, HasTopNames, begins_hex, is_lower_or_digit}
 use Rattle.psc_js_names.proofs.Apart.{stays, is_coded, heads, tails, nil_no_cons, written, letter_apart, letter_not_nil, letter_no_digit, letters_no_digit, behind_mark, two_marks, no_two_marks, until_mark, part_two_marks, part_not_nil, part_assoc, begins_no_digit}
-use Rattle.psc_js_names.proofs.Made.{is_word, word_no_mark, letters_word, great_no_hex, small_word, printed_marked, made_local, local_of}
+use Rattle.psc_js_names.proofs.Made.{is_word, word_no_mark, letters_word, upper_no_hex, lower_word, printed_marked, made_local, local_of}
 
 -- a part goes on to a mark with no digit behind it, and a name of the source does not
 until_end : (x y r : List ℕ) → IsSourceName x → IsSourceName y → begins_hex r ≡ false → letters x ++ 36 ∷ r ≡ letters y → ⊥
@@ -72,13 +72,13 @@ no_word false (c ∷ cs) d ds r a w h = elim (written c) as (λ _. ⊥) [
       (sym (append_assoc (digits 16 false c) (36 ∷ []) (letters cs ++ 36 ∷ r)) ∙ sym (append_assoc (digits 16 false c ++ 36 ∷ []) (letters cs) (36 ∷ r)) ∙ t)
 ]
 
-no_great : (m : Bool) (x : List ℕ) (d : ℕ) (ds r : List ℕ) → IsPart x → is_small d ≡ false → d ≢ 36 → (mark m ++ letters x) ++ 36 ∷ r ≡ 36 ∷ (letter d ++ letters ds) → ⊥
+no_upper : (m : Bool) (x : List ℕ) (d : ℕ) (ds r : List ℕ) → IsPart x → is_lower_or_digit d ≡ false → d ≢ 36 → (mark m ++ letters x) ++ 36 ∷ r ≡ 36 ∷ (letter d ++ letters ds) → ⊥
 unfolding mark letters
-no_great m [] d ds r a g unmarked h = a.0
-no_great true (c ∷ cs) d ds r a g unmarked h =
+no_upper m [] d ds r a g unmarked h = a.0
+no_upper true (c ∷ cs) d ds r a g unmarked h =
     false≢true (sym (letters_no_digit (c ∷ cs) (36 ∷ r) a) ∙ behind_mark d ((letter c ++ letters cs) ++ 36 ∷ r) (letters ds) unmarked (tails _ _ _ _ h))
-no_great false (c ∷ cs) d ds r a g unmarked h =
-    false≢true (sym (letter_no_digit d (letters ds) (great_no_hex d g)) ∙ behind_mark c (letter d ++ letters ds) (letters cs ++ 36 ∷ r) a.1.1 (sym h ∙ append_assoc (letter c) (letters cs) (36 ∷ r)))
+no_upper false (c ∷ cs) d ds r a g unmarked h =
+    false≢true (sym (letter_no_digit d (letters ds) (upper_no_hex d g)) ∙ behind_mark c (letter d ++ letters ds) (letters cs ++ 36 ∷ r) a.1.1 (sym h ∙ append_assoc (letter c) (letters cs) (36 ∷ r)))
 
 no_made_name : (x cs : List ℕ) (ps : List (List ℕ)) → 0 ≢ length ps → AreParts ps → chars x ≡ cs → IsMadeName cs → parts ps ≢ printed x
 unfolding parts printed
@@ -86,7 +86,7 @@ no_made_name x cs [] some a e b h = some refl
 no_made_name x [] (p ∷ ps) some a e b h = b
 no_made_name x (c ∷ []) (p ∷ ps) some a e b h = b.1
 no_made_name x (c ∷ d ∷ ds) (p ∷ ps) some a e b h =
-    let w = small_word d ds b.1 in
+    let w = lower_word d ds b.1 in
     no_word (is_reserved p) (chars p) d ds (parts ps) a.0 w (sym (part_assoc p (parts ps)) ∙ h ∙ printed_marked x (d ∷ ds) (e ∙ ap (λ (z : ℕ). z ∷ d ∷ ds) b.0) ∙ ap (λ (l : List ℕ). 36 ∷ l) (letters_word (d ∷ ds) w))
 
 no_instance_name : (x cs : List ℕ) (ps : List (List ℕ)) → 0 ≢ length ps → AreParts ps → chars x ≡ cs → IsInstanceName cs → parts ps ≢ printed x
@@ -95,7 +95,7 @@ no_instance_name x cs [] some a e b h = some refl
 no_instance_name x [] (p ∷ ps) some a e b h = b
 no_instance_name x (c ∷ []) (p ∷ ps) some a e b h = b.1
 no_instance_name x (c ∷ d ∷ ds) (p ∷ ps) some a e b h =
-    no_great (is_reserved p) (chars p) d ds (parts ps) a.0 b.1.0 b.1.1.1 (sym (part_assoc p (parts ps)) ∙ h ∙ printed_marked x (d ∷ ds) (e ∙ ap (λ (z : ℕ). z ∷ d ∷ ds) b.0))
+    no_upper (is_reserved p) (chars p) d ds (parts ps) a.0 b.1.0 b.1.1.1 (sym (part_assoc p (parts ps)) ∙ h ∙ printed_marked x (d ∷ ds) (e ∙ ap (λ (z : ℕ). z ∷ d ∷ ds) b.0))
 
 -- a module's name has parts
 has_parts : (m : List ℕ) → 0 ≢ length (slice_split (λ b. b == 46) m)

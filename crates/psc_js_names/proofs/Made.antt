@@ -11,7 +11,7 @@ use Rattle.std.proofs.lemmas.Str.Ascii.{IsAscii-from_all}
 use Rattle.std.proofs.lemmas.Slice.Eq.{bytes_eq-Decides}
 use Rattle.psc_js_names.specs.Names.{is_plain, letter, letters, mark, printed, behind, local}
 use Rattle.psc_js_names.specs.Reserved.{reserved, is_reserved}
-use Rattle.psc_js_names.specs.Kinds.{IsSourceName, IsSmallWord, IsMadeName, IsInstanceName, IsTopName, IsLocalName, HasTopNames, IsName, is_hex, is_small}
+use Rattle.psc_js_names.specs.Kinds.{IsSourceName, IsLowerWord, IsMadeName, IsInstanceName, IsTopName, IsLocalName, HasTopNames, IsName, is_hex, is_lower_or_digit}
 use Rattle.psc_js_names.proofs.Hex.{first, second, all_hex}
 use Rattle.psc_js_names.proofs.Apart.{stays, is_coded, heads, tails, nil_no_cons, written, plain_letter, letter_not_nil, letter_no_digit, behind_mark, letters_apart, text_same, names_apart, locals_apart, local_not_top}
 
@@ -31,11 +31,11 @@ mark_no_word h = false≢true h
 word_unmarked : (c : ℕ) → is_ascii_alphanumeric c ≡ true → c ≢ 36
 word_unmarked c h e = mark_no_word (subst (λ (x : ℕ). is_ascii_alphanumeric x ≡ true) e h)
 
-small_letter : (c : ℕ) → is_small c ≡ true → is_ascii_alphanumeric c ≡ true
-small_letter c h = grind (arith, nat_tests)
+lower_letter : (c : ℕ) → is_lower_or_digit c ≡ true → is_ascii_alphanumeric c ≡ true
+lower_letter c h = grind (arith, nat_tests)
 
-pub great_no_hex : (c : ℕ) → is_small c ≡ false → is_hex c ≡ false
-great_no_hex c h = grind (arith, nat_tests)
+pub upper_no_hex : (c : ℕ) → is_lower_or_digit c ≡ false → is_hex c ≡ false
+upper_no_hex c h = grind (arith, nat_tests)
 
 word_source : (cs : List ℕ) → is_word cs ≡ true → IsSourceName cs
 word_source [] h = tt
@@ -138,8 +138,8 @@ no_word_behind p false (c ∷ cs) d ds a w h = elim (written c) as (λ _. ⊥) [
       (sym (append_assoc (digits 16 false c) (36 ∷ []) (letters cs ++ behind p)) ∙ sym (append_assoc (digits 16 false c ++ 36 ∷ []) (letters cs) (behind p)) ∙ t)
 ]
 
-no_great_behind_mark : (p : Bool) (x : List ℕ) (d : ℕ) (ds : List ℕ) → is_fit x ≡ true → d ≢ 36 → 36 ∷ (letters x ++ behind p) ≡ letter d ++ letters ds → ⊥
-no_great_behind_mark p x d ds f unmarked h = elim (written d) as (λ _. ⊥) [
+no_upper_behind_mark : (p : Bool) (x : List ℕ) (d : ℕ) (ds : List ℕ) → is_fit x ≡ true → d ≢ 36 → 36 ∷ (letters x ++ behind p) ≡ letter d ++ letters ds → ⊥
+no_upper_behind_mark p x d ds f unmarked h = elim (written d) as (λ _. ⊥) [
   | stays q e ↦ unmarked (sym (heads _ _ _ _ (h ∙ ap (λ (l : List ℕ). l ++ letters ds) e)))
   | is_coded e ↦
       let w : is_word x ≡ true = first (is_word x) (if list_all is_hex x then false else true) f in
@@ -149,13 +149,13 @@ no_great_behind_mark p x d ds f unmarked h = elim (written d) as (λ _. ⊥) [
       true≢false (sym all ∙ not_all (list_all is_hex x) (second (is_word x) (if list_all is_hex x then false else true) f))
 ]
 
-no_great_behind : (p m : Bool) (x : List ℕ) (d : ℕ) (ds : List ℕ) → IsSourceName x → (m ≡ true → is_fit x ≡ true) → is_small d ≡ false → IsSourceName (d ∷ ds) → (mark m ++ letters x) ++ behind p ≡ 36 ∷ letters (d ∷ ds) → ⊥
+no_upper_behind : (p m : Bool) (x : List ℕ) (d : ℕ) (ds : List ℕ) → IsSourceName x → (m ≡ true → is_fit x ≡ true) → is_lower_or_digit d ≡ false → IsSourceName (d ∷ ds) → (mark m ++ letters x) ++ behind p ≡ 36 ∷ letters (d ∷ ds) → ⊥
 unfolding mark behind letters
-no_great_behind p true x d ds a f g b h = no_great_behind_mark p x d ds (f refl) b.1 (tails _ _ _ _ h)
-no_great_behind true false [] d ds a f g b h = letter_not_nil d (letters ds) (tails _ _ _ _ h)
-no_great_behind false false [] d ds a f g b h = nil_no_cons _ _ h
-no_great_behind p false (c ∷ cs) d ds a f g b h =
-    false≢true (sym (letter_no_digit d (letters ds) (great_no_hex d g)) ∙ behind_mark c (letter d ++ letters ds) (letters cs ++ behind p) a.1 (sym h ∙ append_assoc (letter c) (letters cs) (behind p)))
+no_upper_behind p true x d ds a f g b h = no_upper_behind_mark p x d ds (f refl) b.1 (tails _ _ _ _ h)
+no_upper_behind true false [] d ds a f g b h = letter_not_nil d (letters ds) (tails _ _ _ _ h)
+no_upper_behind false false [] d ds a f g b h = nil_no_cons _ _ h
+no_upper_behind p false (c ∷ cs) d ds a f g b h =
+    false≢true (sym (letter_no_digit d (letters ds) (upper_no_hex d g)) ∙ behind_mark c (letter d ++ letters ds) (letters cs ++ behind p) a.1 (sym h ∙ append_assoc (letter c) (letters cs) (behind p)))
 
 -- a name that is made, and its name behind the mark
 pub record Made (x : List ℕ) : Type 0 where
@@ -163,13 +163,13 @@ pub record Made (x : List ℕ) : Type 0 where
   pub same : chars x ≡ 36 ∷ rest
   pub source : IsSourceName rest
 
-pub small_word : (c : ℕ) (cs : List ℕ) → IsSmallWord (c ∷ cs) → is_word (c ∷ cs) ≡ true
-small_word c cs a = ap (λ (b : Bool). b && is_word cs) (small_letter c a.0) ∙ a.1
+pub lower_word : (c : ℕ) (cs : List ℕ) → IsLowerWord (c ∷ cs) → is_word (c ∷ cs) ≡ true
+lower_word c cs a = ap (λ (b : Bool). b && is_word cs) (lower_letter c a.0) ∙ a.1
 
 made_rest : (x cs : List ℕ) → chars x ≡ cs → IsMadeName cs → Made x
 made_rest x [] e a = absurd a
 made_rest x (c ∷ []) e a = absurd a.1
-made_rest x (c ∷ d ∷ ds) e a = record { rest = d ∷ ds; same = e ∙ ap (λ (z : ℕ). z ∷ d ∷ ds) a.0; source = word_source (d ∷ ds) (small_word d ds a.1) }
+made_rest x (c ∷ d ∷ ds) e a = record { rest = d ∷ ds; same = e ∙ ap (λ (z : ℕ). z ∷ d ∷ ds) a.0; source = word_source (d ∷ ds) (lower_word d ds a.1) }
 
 instance_rest : (x cs : List ℕ) → chars x ≡ cs → IsInstanceName cs → Made x
 instance_rest x [] e a = absurd a
@@ -187,7 +187,7 @@ unfolding printed
 source_made s x y [] a e b h = b
 source_made s x y (c ∷ []) a e b h = b.1
 source_made s x y (c ∷ d ∷ ds) a e b h =
-    let w = small_word d ds b.1 in
+    let w = lower_word d ds b.1 in
     no_word_behind s (is_reserved x) (chars x) d ds a w (h ∙ printed_marked y (d ∷ ds) (e ∙ ap (λ (z : ℕ). z ∷ d ∷ ds) b.0) ∙ ap (λ (l : List ℕ). 36 ∷ l) (letters_word (d ∷ ds) w))
 
 source_instance : (s : Bool) (x y cs : List ℕ) → IsSourceName (chars x) → chars y ≡ cs → IsInstanceName cs → printed x ++ behind s ≡ printed y → ⊥
@@ -195,7 +195,7 @@ unfolding printed
 source_instance s x y [] a e b h = b
 source_instance s x y (c ∷ []) a e b h = b.1
 source_instance s x y (c ∷ d ∷ ds) a e b h =
-    no_great_behind s (is_reserved x) (chars x) d ds a (fit x) b.1.0 b.1.1 (h ∙ printed_marked y (d ∷ ds) (e ∙ ap (λ (z : ℕ). z ∷ d ∷ ds) b.0))
+    no_upper_behind s (is_reserved x) (chars x) d ds a (fit x) b.1.0 b.1.1 (h ∙ printed_marked y (d ∷ ds) (e ∙ ap (λ (z : ℕ). z ∷ d ∷ ds) b.0))
 
 pub plain_end : (x : List ℕ) → printed x ++ behind false ≡ printed x
 unfolding behind

@@ -9,27 +9,27 @@ abbrev pub IsSourceName : List ℕ → Type 0
 IsSourceName [] = Unit {0}
 IsSourceName (c ∷ cs) = (c < 2 ^ 21) × (c ≢ 36) × IsSourceName cs
 
--- the digits and small letters of ASCII
-abbrev pub is_small : ℕ → Bool
-is_small c = is_in_range 48 57 c || is_in_range 97 122 c
+-- the digits and lower case letters of ASCII
+abbrev pub is_lower_or_digit : ℕ → Bool
+is_lower_or_digit c = is_in_range 48 57 c || is_in_range 97 122 c
 
-abbrev pub IsSmallWord : List ℕ → Type 0
-IsSmallWord [] = ⊥
-IsSmallWord (c ∷ cs) = (is_small c ≡ true) × (list_all is_ascii_alphanumeric cs ≡ true)
+abbrev pub IsLowerWord : List ℕ → Type 0
+IsLowerWord [] = ⊥
+IsLowerWord (c ∷ cs) = (is_lower_or_digit c ≡ true) × (list_all is_ascii_alphanumeric cs ≡ true)
 
-abbrev pub IsGreatName : List ℕ → Type 0
-IsGreatName [] = ⊥
-IsGreatName (c ∷ cs) = (is_small c ≡ false) × IsSourceName (c ∷ cs)
+abbrev pub IsUpperName : List ℕ → Type 0
+IsUpperName [] = ⊥
+IsUpperName (c ∷ cs) = (is_lower_or_digit c ≡ false) × IsSourceName (c ∷ cs)
 
--- a local name that the compiler makes is `$`, a digit or small letter, and digits and letters of ASCII: `$0`, `$d0`, `$u`
+-- a local name that the compiler makes is `$`, a digit or lower case letter, and digits and letters of ASCII: `$0`, `$d0`, `$u`
 abbrev pub IsMadeName : List ℕ → Type 0
 IsMadeName [] = ⊥
-IsMadeName (c ∷ cs) = (c ≡ 36) × IsSmallWord cs
+IsMadeName (c ∷ cs) = (c ≡ 36) × IsLowerWord cs
 
--- the made name of an instance is `$` and the name of its class, which begins with no small letter: `$Show_Int`
+-- the made name of an instance is `$` and the name of its class, which begins with no lower case letter: `$Show_Int`
 abbrev pub IsInstanceName : List ℕ → Type 0
 IsInstanceName [] = ⊥
-IsInstanceName (c ∷ cs) = (c ≡ 36) × IsGreatName cs
+IsInstanceName (c ∷ cs) = (c ≡ 36) × IsUpperName cs
 
 -- the names at the top of a module, and the local ones
 abbrev pub IsTopName : List ℕ → Type 0

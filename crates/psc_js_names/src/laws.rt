@@ -34,7 +34,7 @@ pub fn alias_is_no_name()
 {}
 
 /// An alias prints as a local name only where that name is the module's, as no name that begins with a
-/// small letter is.
+/// lower letter is.
 pub fn alias_is_no_other_local()
     ensures { (top : List ℕ → Bool) (m x : List ℕ) → HasTopNames top → AreParts (slice_split (λ b. b == 46) m) → IsLocalName (chars x) → alias m ≡ local top x → map chars (slice_split (λ b. b == 46) m) ≡ chars x ∷ [] }
 {}

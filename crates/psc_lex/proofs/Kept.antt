@@ -1,5 +1,5 @@
 -- The innermost block ends, or stays with all that are round it.
-use Rattle.std.proofs.Common.{◌≡◌, ℕ, zero, suc, ◌-◌, ◌<◌, ◌≤◌, Bool, true, false, List, [], ◌∷◌, length, get_or, take, cond, refl, ap, sym, ◌∙◌, arith}
+use Rattle.std.proofs.Common.{◌≡◌, ℕ, zero, suc, ◌-◌, ◌<◌, ◌≤◌, true, false, List, [], ◌∷◌, length, get_or, take, cond, ap, sym, ◌∙◌, arith}
 use Rattle.psc_lex.specs.declared.blocks.Block.{Block}
 use Rattle.psc_lex.specs.declared.blocks.Rule.{Rule}
 use Rattle.psc_lex.specs.Blocks.{ends, kept}

@@ -1,5 +1,5 @@
 -- One turn of the loop that looks for the longest spelling, with the characters as a slice pattern takes them apart.
-use Rattle.std.proofs.Common.{◌≡◌, ℕ, zero, suc, ◌+◌, ◌-◌, ◌<◌, ◌≤◌, List, [], ◌∷◌, get_or, take, drop, length, Option, Some, None, IfSome, ap, sym, ◌∙◌, arith}
+use Rattle.std.proofs.Common.{◌≡◌, ℕ, suc, ◌+◌, ◌-◌, ◌<◌, ◌≤◌, List, [], ◌∷◌, get_or, take, drop, length, Option, Some, None, IfSome, ap, sym, ◌∙◌, arith}
 use Rattle.std.proofs.Math.Seq.{take-length}
 use Rattle.psc_lex.specs.declared.machine.Form.{Form}
 use Rattle.psc_lex.specs.declared.machine.State.{State}

@@ -1,6 +1,6 @@
 //! The signs of pieces: which keyword, which reserved operator, which bracket a spelling is.
 
-use crate::class::{is_blank, is_symbol};
+use crate::class::is_blank;
 use crate::machine::Form;
 use crate::sign::Sign;
 use crate::token::TokKind;

@@ -8,7 +8,7 @@ use crate::range::WideLiteral;
 use psc_error::{Code, PsError};
 use psc_items::SharedItems;
 use psc_parse_base::Fault;
-use psc_text::{ModuleName, NoMemory, Span, Text};
+use psc_text::{ModuleName, NoMemory, Span};
 use std::alloc::{AllocError, Global};
 
 /// The deepest nesting that an item may have.

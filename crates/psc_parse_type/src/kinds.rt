@@ -2,7 +2,7 @@
 
 use psc_ast::{KindTree, TypeVar};
 use psc_lex::Sign;
-use psc_parse_base::{Fault, Next, Parsed, Sym, eat, expect, ident, lower, peek, sees, span_of};
+use psc_parse_base::{Fault, Next, Parsed, Sym, eat, expect, ident, lower, sees, span_of};
 use sqlite_items::{Boxed, Items};
 use std::alloc::Global;
 

@@ -1,7 +1,7 @@
 //! Types, rows and constraints.
 
 use crate::kinds::some_variables;
-use psc_ast::{Constr, Mention, RowField, RowTree, Sig, TypePrefix, TypeStep, TypeTree};
+use psc_ast::{Constr, RowField, RowTree, Sig, TypePrefix, TypeStep, TypeTree};
 use psc_lex::{Sign, Tok};
 use psc_parse_base::{
     Fault, Next, Parsed, Sym, comes, content, eat, expect, ident, label, mention, peek,

@@ -1,5 +1,5 @@
 -- Where a list of bytes is cut.
-use Rattle.std.proofs.Common.{Bool, cond, refl, None, suc, ◌≡◌, ◌==◌, ℕ, ◌+◌, ◌-◌, ◌<◌, ◌≤◌, false, true, List, [], ◌∷◌, ◌++◌, length, All, take, drop, get_or, nat_eq, ap, ◌∙◌, sym, subst, arith, length-drop, add-one, eqb, eq-eqb}
+use Rattle.std.proofs.Common.{Bool, cond, refl, None, suc, ◌≡◌, ◌==◌, ℕ, ◌+◌, ◌-◌, ◌<◌, ◌≤◌, false, true, List, [], ◌∷◌, ◌++◌, length, All, take, drop, get_or, ap, ◌∙◌, sym, subst, arith, length-drop, add-one, eqb, eq-eqb}
 use Rattle.std.specs.List.{slice_split, onto_first}
 use Rattle.psc_top.specs.Line.{three}
 use Rattle.std.proofs.Math.Seq.{split_at}

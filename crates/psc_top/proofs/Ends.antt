@@ -1,5 +1,5 @@
 -- How a run ends, from the calls that it made.
-use Rattle.std.proofs.Common.{◌≡◌, ◌≢◌, ◌⊎◌, ℕ, Bool, List, Option, Some, None, Result, Ok, Err, IsTrue, MatchOption, inl, inr, refl, ap, sym, ◌∙◌, ⊎_elim}
+use Rattle.std.proofs.Common.{◌≡◌, ◌≢◌, ◌⊎◌, ℕ, Bool, List, Option, Some, None, Result, Ok, Err, MatchOption, inl, inr, refl, ap, sym, ◌∙◌, ⊎_elim}
 use Rattle.psc_outside.specs.declared.status.Status.{Status}
 use Rattle.psc_outside.specs.declared.status.Status.TheVariants as status
 use Rattle.psc_outside.specs.declared.put.Put.{Put}

@@ -1,11 +1,11 @@
 -- Names and digits are ASCII.
-use Rattle.std.proofs.Common.{refl, ◌≡◌, ℕ, ◌<◌, ◌≤◌, Bool, true, false, ◌&&◌, List, [], ◌∷◌, IsAscii, arith, rules, nat_le}
+use Rattle.std.proofs.Common.{refl, ◌≡◌, ℕ, ◌<◌, ◌≤◌, Bool, true, false, ◌&&◌, List, [], ◌∷◌, IsAscii, arith}
 use Rattle.std.proofs.lemmas.Bool.{false≢true}
 use Rattle.std.specs.List.{list_all}
 use Rattle.std.specs.Char.{is_ascii_alphanumeric, is_ascii_digit}
 use Rattle.std.proofs.lemmas.Bool.Decides.{nat_tests}
 use Rattle.std.proofs.lemmas.Str.Ascii.{IsAscii-nil, IsAscii-cons}
-use Rattle.psc_top.specs.Words.{is_lower_word, is_value_word, is_module_word, are_digits}
+use Rattle.psc_top.specs.Words.{is_value_word, is_module_word, are_digits}
 
 -- the parts of a test that passed
 pub first : (a b : Bool) → (a && b) ≡ true → a ≡ true

@@ -1,6 +1,6 @@
 -- What `parse` gives of digits.
-use Rattle.std.proofs.Common.{◌≡◌, ℕ, ◌<◌, ◌≤◌, ◌^◌, ◌+◌, Bool, true, false, ◌&&◌, cond, List, length, arith, rules, nat_le, nat_lt, bytes_eq, codes, option_map, Ok, Err, Some, None, Result, refl, ap, sym, ◌∙◌, ℤ, pos, w32}
-use Rattle.std.specs.Result.{result_ok, OkIff}
+use Rattle.std.proofs.Common.{◌≡◌, ℕ, ◌<◌, ◌≤◌, ◌^◌, ◌+◌, true, false, ◌&&◌, List, length, arith, rules, nat_le, nat_lt, bytes_eq, codes, option_map, Ok, Err, Some, Result, refl, ap, sym, ◌∙◌, ℤ, w32}
+use Rattle.std.specs.Result.{result_ok}
 use Rattle.std.specs.List.{list_all}
 use Rattle.std.specs.Char.{is_ascii_digit}
 use Rattle.std.specs.Str.Parse.{ParsesSigned, digits_value}

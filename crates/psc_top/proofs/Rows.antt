@@ -1,6 +1,6 @@
 -- What is spelled by the rules is accepted.
-use Rattle.std.proofs.Common.{◌≡◌, ◌==◌, ℕ, ◌+◌, ◌<◌, ◌≤◌, ◌^◌, Bool, true, false, ◌&&◌, ◌||◌, cond, not, List, [], ◌∷◌, ◌++◌, length, get_or, Option, Some, None, Result, Ok, Err, option_map, option_and_then, nat_le, nat_lt, bytes_eq, codes, decimal, flat_map, map, ℤ, pos, refl, ap, sym, ◌∙◌, subst, arith, append_assoc, append-nil, All, zero, suc}
-use Rattle.std.specs.List.{list_all, list_any, slice_split, AllByRecursion}
+use Rattle.std.proofs.Common.{◌≡◌, ◌==◌, ℕ, ◌+◌, ◌<◌, ◌≤◌, ◌^◌, Bool, true, false, ◌&&◌, ◌||◌, cond, not, List, [], ◌∷◌, ◌++◌, length, get_or, Some, None, Ok, option_map, option_and_then, nat_le, nat_lt, bytes_eq, codes, decimal, flat_map, map, ℤ, pos, refl, ap, sym, ◌∙◌, subst, arith, append_assoc, append-nil, All, zero, suc}
+use Rattle.std.specs.List.{list_all, list_any, AllByRecursion}
 use Rattle.std.specs.Char.{is_ascii_digit, is_ascii_alphanumeric}
 use Rattle.std.specs.Str.Parse.{digits_value}
 use Rattle.std.proofs.lemmas.Bool.{false≢true}
@@ -10,10 +10,9 @@ use Rattle.std.proofs.lemmas.List.Elements.{All-from_recursion}
 use Rattle.std.proofs.lemmas.List.Splits.{slice_split_at, slice_split_none}
 use Rattle.psc_top.specs.declared.line.Binding.{Binding}
 use Rattle.psc_top.specs.declared.source.Source.{Source}
-use Rattle.psc_top.specs.declared.source.RefusedLine.{RefusedLine}
-use Rattle.psc_top.specs.Words.{words, are_digits, is_value_word, is_module_word}
+use Rattle.psc_top.specs.Words.{words, is_value_word, is_module_word}
 use Rattle.psc_top.specs.Line.{number_of, greatest, three, named, header_of, bound, written_on, binding_on, to_end}
-use Rattle.psc_top.specs.Reading.{parts, refused, is_bound, with_new, with_line, bindings_in, behind_header, source_in, source_of}
+use Rattle.psc_top.specs.Reading.{parts, is_bound, with_new, with_line, bindings_in, source_in, source_of}
 use Rattle.psc_top.specs.Spelling.{row_line, file_of, AreRows, names_rows}
 use Rattle.psc_top.proofs.Letters.{first, second}
 use Rattle.psc_top.proofs.Numbers.{own, bound_is}

@@ -1,5 +1,5 @@
 -- Which calls a run makes, with which answers, and what they leave.
-use Rattle.std.specs.Prelude.{◌≡◌, ℕ, Bool, List, Option, Some, None, IsTrue, ◌⊎◌, MatchOption}
+use Rattle.std.specs.Prelude.{◌≡◌, ℕ, Bool, List, IsTrue, ◌⊎◌, MatchOption}
 use Rattle.psc_outside.specs.declared.status.Status.{Status}
 use Rattle.psc_outside.specs.declared.status.Status.TheVariants as status
 use Rattle.psc_outside.specs.declared.read_file.ReadFile.{ReadFile}

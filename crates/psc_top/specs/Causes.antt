@@ -1,5 +1,5 @@
 -- Why a run ends as it does.
-use Rattle.std.specs.Prelude.{◌≡◌, ℕ, Bool, List, ◌⊎◌, Option, Some, None, Result, Ok, Err, IsTrue}
+use Rattle.std.specs.Prelude.{◌≡◌, ℕ, Bool, List, ◌⊎◌, Some, None, Result, Ok, Err, IsTrue}
 use Rattle.psc_outside.specs.declared.status.Status.{Status}
 use Rattle.psc_outside.specs.declared.status.Status.TheVariants as status
 use Rattle.psc_outside.specs.Contents.{Contents}

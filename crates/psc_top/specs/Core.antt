@@ -11,7 +11,6 @@ use Rattle.psc_core_tree.specs.declared.literal.Literal.TheVariants as literal
 use Rattle.psc_core_tree.specs.declared.expr.CoreExpr.TheVariants as expr
 use Rattle.psc_core_tree.specs.declared.expr.CoreBind.{CoreBind}
 use Rattle.psc_core_tree.specs.declared.expr.CoreBind.TheVariants as bind
-use Rattle.psc_core_tree.specs.declared.expr.CoreBinding.{CoreBinding}
 use Rattle.psc_core_tree.specs.declared.module.CoreModule.{CoreModule}
 use Rattle.psc_top.specs.declared.line.Binding.{Binding}
 use Rattle.psc_top.specs.declared.source.Source.{Source}

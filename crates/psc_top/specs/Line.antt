@@ -1,5 +1,5 @@
 -- What one line may be: the header `module NAME where`, or a binding `name = digits`.
-use Rattle.std.specs.Prelude.{ℕ, ◌+◌, Bool, ◌&&◌, List, [], ◌∷◌, Option, Some, None, option_map, option_and_then, cond, bytes_eq, codes, ℤ, pos, nat_le, length}
+use Rattle.std.specs.Prelude.{ℕ, ◌+◌, ◌&&◌, List, [], ◌∷◌, Option, Some, None, option_map, option_and_then, cond, bytes_eq, codes, ℤ, pos, nat_le, length}
 use Rattle.std.specs.Str.Parse.{digits_value}
 use Rattle.psc_text.specs.declared.span.Span.{Span}
 use Rattle.psc_top.specs.declared.line.Binding.{Binding}

@@ -1,5 +1,5 @@
 -- Names as JavaScript has them.
-use Rattle.std.specs.Prelude.{ℕ, Bool, List, [], ◌∷◌, ◌++◌, cond, codes, bytes_eq}
+use Rattle.std.specs.Prelude.{ℕ, List, [], ◌∷◌, ◌++◌, cond, codes, bytes_eq}
 use Rattle.std.specs.List.{list_any}
 
 -- the words that are no names there

@@ -1,5 +1,5 @@
 -- What a run of `compile` on one file says and stores.
-use Rattle.std.specs.Prelude.{◌≡◌, ℕ, ◌++◌, Bool, ◌==◌, List, [], ◌∷◌, Option, Some, None, Result, Ok, Err, cond, bytes_eq, codes, decimal, IsTrue}
+use Rattle.std.specs.Prelude.{◌≡◌, ℕ, ◌++◌, ◌==◌, List, [], ◌∷◌, Option, Some, None, Result, Ok, Err, cond, bytes_eq, codes, decimal}
 use Rattle.psc_outside.specs.declared.status.Status.{Status}
 use Rattle.psc_outside.specs.declared.status.Status.TheVariants as status
 use Rattle.psc_outside.specs.declared.read_file.ReadFile.{ReadFile}

@@ -1,5 +1,5 @@
 -- One letter of a name.
-use Rattle.std.proofs.Common.{◌≡◌, ℕ, Bool, true, false, not, ◌&&◌, List, [], ◌∷◌, ◌++◌, ◌==◌, if◌then◌else◌, sym, refl, ap, ◌∙◌, append_assoc, append-nil}
+use Rattle.std.proofs.Common.{◌≡◌, ℕ, Bool, true, false, not, ◌&&◌, List, [], ◌∷◌, ◌++◌, ◌==◌, if◌then◌else◌, sym, ap, ◌∙◌, append_assoc, append-nil}
 use Rattle.std.specs.Char.{encode_utf8}
 use Rattle.psc_type_text.specs.Names.{front, fits, is_spelled_lower}
 

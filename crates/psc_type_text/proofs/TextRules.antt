@@ -1,5 +1,5 @@
 -- The shape and the text of a type, at a constrained type and in general.
-use Rattle.std.proofs.Common.{◌≡◌, ◌++◌, List, ℕ, map, refl, rules}
+use Rattle.std.proofs.Common.{◌≡◌, ◌++◌, rules}
 use Rattle.psc_type.specs.declared.ty.Constraint.{Constraint}
 use Rattle.psc_type.specs.declared.ty.Ty.{Ty, the_lemmas}
 use Rattle.psc_type.specs.declared.ty.Ty.TheVariants as ty

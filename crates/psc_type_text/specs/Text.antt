@@ -1,6 +1,5 @@
 -- The texts of types.
-use Rattle.std.specs.Prelude.{ℕ, Bool, true, false, nat_lt, List, [], ◌∷◌, ◌++◌, if◌then◌else◌, map, codes}
-use Rattle.psc_text.specs.declared.names.Ident.{Ident}
+use Rattle.std.specs.Prelude.{ℕ, nat_lt, List, [], ◌∷◌, ◌++◌, if◌then◌else◌, map, codes}
 use Rattle.psc_text.specs.declared.names.Label.{Label}
 use Rattle.psc_text.specs.declared.names.Qualified.{Qualified}
 use Rattle.psc_type.specs.declared.ty.Constraint.{Constraint}

@@ -10,7 +10,7 @@ use crate::shape::{
     is_empty_row, is_from, is_function, is_labels, is_open, is_quantified, is_record, is_wide,
     shape_of,
 };
-use psc_text::{Ident, Label, NoMemory, Text};
+use psc_text::{Label, NoMemory, Text};
 use psc_type::{Constraint, MOST_NODES, Ty, canonical, has_more_nodes};
 use std::alloc::Global;
 

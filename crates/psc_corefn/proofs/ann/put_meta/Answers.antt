@@ -1,5 +1,4 @@
 use Rattle.psc_corefn.specs.Ann as ann_text
-use Rattle.psc_corefn.proofs.Appended.{more, last}
 use Rattle.psc_corefn.proofs.ann.put_meta.Goals as goal
 
 pub returns-in-IsNewtype : goal.returns-in-IsNewtype

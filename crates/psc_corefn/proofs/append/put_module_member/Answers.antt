@@ -1,5 +1,5 @@
 use Rattle.psc_corefn.specs.Json as json_text
-use Rattle.psc_corefn.proofs.Appended.{more, last}
+use Rattle.psc_corefn.proofs.Appended.{last}
 use Rattle.psc_corefn.proofs.append.put_module_member.Goals as goal
 
 pub returns : goal.returns

@@ -1,4 +1,4 @@
-use Rattle.std.proofs.Common.{◌≡◌, ap, sym, ◌∙◌, length, drop, ◌-◌}
+use Rattle.std.proofs.Common.{◌≡◌, ap, ◌∙◌, length, drop, ◌-◌}
 use Rattle.psc_lex.specs.declared.machine.State.{State}
 use Rattle.psc_lex.specs.Cut.{longest}
 use Rattle.psc_lex.proofs.Comments.{quiet_on}

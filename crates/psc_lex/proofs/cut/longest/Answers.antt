@@ -1,4 +1,4 @@
-use Rattle.std.proofs.Common.{◌≡◌, ℕ, ◌+◌, length, Some, sym, ap, ◌∙◌, arith}
+use Rattle.std.proofs.Common.{◌≡◌, ◌+◌, Some, sym, ap, ◌∙◌, arith}
 use Rattle.psc_lex.proofs.Turns.{in_vain, accepted, passed, still_quiet, length_more, weaker}
 use Rattle.psc_lex.specs.Machine as spec
 use Rattle.psc_lex.proofs.cut.longest.Goals as goal

@@ -2,7 +2,6 @@ use Rattle.std.proofs.Common.{sym, ◌∙◌, ap}
 use Rattle.std.proofs.lemmas.Str.{IsUtf8-past_char, chars_past_char, chars-nil}
 use Rattle.std.proofs.lemmas.List.{nil_from_length}
 use Rattle.std.specs.Str.{chars}
-use Rattle.psc_text.specs.Letters.{are_upper_names}
 use Rattle.psc_text.proofs.Turns.{goes_on-turn, stops-turn, ends-turn}
 use Rattle.psc_text.proofs.module_name.is_module_name.Goals as goal
 

@@ -1,6 +1,5 @@
-use Rattle.std.proofs.Common.{◌≡◌, true, ◌∙◌, rules, Result, ℤ, w32, List, ℕ, subst}
+use Rattle.std.proofs.Common.{◌≡◌, ◌∙◌, rules, w32, List, ℕ, subst}
 use Rattle.std.specs.Str.Parse.{ParsesSigned}
-use Rattle.psc_top.specs.Words.{are_digits}
 use Rattle.psc_top.proofs.Letters.{digits_ascii}
 use Rattle.psc_top.proofs.Numbers.{number_read}
 use Rattle.psc_top.proofs.line.number_of.Goals as goal

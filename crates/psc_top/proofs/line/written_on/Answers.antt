@@ -1,4 +1,4 @@
-use Rattle.std.proofs.Common.{◌≡◌, arith, rules, ℤ, w32, true, ap, sym, ◌∙◌, option_and_then}
+use Rattle.std.proofs.Common.{◌≡◌, rules, w32, ap, sym, ◌∙◌, option_and_then}
 use Rattle.std.proofs.lemmas.Int.{to_z-of_z}
 use Rattle.psc_top.specs.Line.{bound}
 use Rattle.psc_top.proofs.Numbers.{bound_is}

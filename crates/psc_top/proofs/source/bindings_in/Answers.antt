@@ -1,4 +1,4 @@
-use Rattle.std.proofs.Common.{◌≡◌, ◌==◌, ◌<◌, ◌≤◌, None, Some, sym, ap, ◌∙◌, rules, arith, length}
+use Rattle.std.proofs.Common.{◌≡◌, ◌==◌, ◌<◌, ◌≤◌, None, Some, sym, ap, ◌∙◌, rules, arith}
 use Rattle.psc_top.specs.Reading as spec
 use Rattle.psc_top.proofs.Readings.{refused_line, added_line}
 use Rattle.psc_top.proofs.source.bindings_in.Goals as goal

@@ -1,4 +1,4 @@
-use Rattle.std.proofs.Common.{◌≡◌, true, chars, subst, IsSome, Option, rules}
+use Rattle.std.proofs.Common.{◌≡◌, true, chars, subst, IsSome, Option}
 use Rattle.std.proofs.lemmas.Bool.{false≢true}
 use Rattle.psc_text.specs.Letters.{is_module_name}
 use Rattle.psc_text.specs.declared.module_name.ModuleName.{ModuleName}

@@ -1,4 +1,4 @@
-use Rattle.std.proofs.Common.{◌≡◌, ◌==◌, sym, ap, ◌∙◌, rules, arith}
+use Rattle.std.proofs.Common.{◌≡◌, ◌==◌, sym, ap, ◌∙◌, rules}
 use Rattle.psc_top.specs.Reading as spec
 use Rattle.psc_top.proofs.Readings.{accepted}
 use Rattle.psc_top.proofs.source.source_of.Goals as goal

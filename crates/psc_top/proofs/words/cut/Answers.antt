@@ -1,4 +1,4 @@
-use Rattle.std.proofs.Common.{◌≡◌, ◌==◌, ◌<◌, length, false, arith, rules, All}
+use Rattle.std.proofs.Common.{◌≡◌, ◌==◌, ◌<◌, false, arith, rules, All}
 use Rattle.std.proofs.lemmas.List.Elements.{All-more}
 use Rattle.psc_top.proofs.Cuts.{cut_here, cut_nowhere}
 use Rattle.psc_top.proofs.words.cut.Goals as goal
