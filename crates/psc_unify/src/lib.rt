@@ -14,7 +14,6 @@ mod read;
 mod solver;
 mod state;
 mod tables;
-
 #[cfg(test)]
 mod tests;
 

@@ -121,7 +121,9 @@ impl Opened {
                 let rest = Shared::new(self.alloc, others)?;
                 Ok(Ty::RowCons(label.clone()?, first, rest))
             }
-            Ty::Unknown(_) | Ty::Con(_) | Ty::RowNil | Ty::Symbol(_) | Ty::Any(_) => Ok(ty.clone()?),
+            Ty::Unknown(_) | Ty::Con(_) | Ty::RowNil | Ty::Symbol(_) | Ty::Any(_) => Ok(
+                ty.clone()?,
+            ),
         }
     }
 

@@ -85,12 +85,7 @@ fn take_back(state: &mut State, count: usize) -> Result<(), NoMemory>
 }
 
 /// Both types with their binders opened. None where there are no binders.
-fn open_both(
-    alloc: Global,
-    names: &mut Names,
-    a: &Ty,
-    b: &Ty,
-) -> Result<Option<(Ty, Ty)>, NoMemory>
+fn open_both(alloc: Global, names: &mut Names, a: &Ty, b: &Ty) -> Result<Option<(Ty, Ty)>, NoMemory>
     ensures { OnOk result (Continues names.old names.new) }
 {
     let mut opened = Opened::new(alloc);
@@ -269,6 +264,7 @@ impl Solver {
         ensures clash { IfOk result (λ clash. clash.scopes_only ≡ scopes_only) }
         ensures state { self.new.state ≡ self.old.state }
         ensures kept { IfOk result (λ clash. self.new.clash ≡ Some clash) }
+        ensures spent { self.new.is_spent ≡ self.old.is_spent }
     {
         let clash = clash_of(alloc, &self.state, a, b, scopes_only)?;
         let copy = copy_clash(&clash)?;
@@ -282,6 +278,7 @@ impl Solver {
         ensures stays { (clash : Clash) → self.old.clash ≡ Some clash → (self.new.clash ≡ Some clash) × IfOk result (λ r. r ≡ Err clash) }
         ensures kept { (clash : Clash) → result ≡ Ok (Err clash) → self.new.clash ≡ Some clash }
         ensures before { (clash : Clash) → result ≡ Ok (Err clash) → length self.new.state.graph.nodes.items ≤ length self.old.state.graph.nodes.items }
+        ensures spent { self.new.is_spent ≡ self.old.is_spent }
     {
         if let Some(clash) = &self.clash {
             let copy = copy_clash(clash)?;
