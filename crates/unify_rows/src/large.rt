@@ -64,7 +64,13 @@ pub fn shared(alloc: Global) -> Result<String, Fault> {
     let (bottom, top) = tower(alloc, &mut solver, 60, &mut out)?;
     let (second, other) = tower(alloc, &mut solver, 60, &mut out)?;
     let int = constructor(alloc, "Int")?;
-    answer(alloc, &mut solver, &Ty::Unknown(top), &Ty::Unknown(other), &mut out)?;
+    answer(
+        alloc,
+        &mut solver,
+        &Ty::Unknown(top),
+        &Ty::Unknown(other),
+        &mut out,
+    )?;
     answer(alloc, &mut solver, &Ty::Unknown(bottom), &int, &mut out)?;
     show(alloc, &solver, second, &mut out)?;
     let array = constructor(alloc, "Array")?;

@@ -42,10 +42,16 @@ fn texts(alloc: Global, rows: &str) -> Result<String, Fault> {
     for line in rows.lines() {
         print_row(&mut out, alloc, line)?;
     }
-    print_line(&mut out, "# two towers of 60 levels, whose tops and then a bottom are equated")?;
+    print_line(
+        &mut out,
+        "# two towers of 60 levels, whose tops and then a bottom are equated",
+    )?;
     let towers = shared(alloc)?;
     print_answers(&mut out, towers.as_str())?;
-    print_line(&mut out, "# two types of 1,000 levels, and a third one of another inside")?;
+    print_line(
+        &mut out,
+        "# two types of 1,000 levels, and a third one of another inside",
+    )?;
     let levels = deep(alloc)?;
     print_answers(&mut out, levels.as_str())?;
     Ok(out)
