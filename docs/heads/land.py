@@ -48,7 +48,7 @@ for page, texts in pages.items():
     first = [open('docs/' + page).read().strip('\n')] if page == 'DECISIONS.md' else [open(base).read().strip('\n')] if os.path.exists(base) else []
     out = []
     for i, t in enumerate(first + texts):
-        t = '\n'.join(l for l in t.split('\n') if not (m := re.match(r'^\[(\w+)\]', l)) or m.group(1) in keep)
+        t = '\n'.join(re.sub(r'^\[\w+\] ', '', l) for l in t.split('\n') if not (m := re.match(r'^\[(\w+)\]', l)) or m.group(1) in keep)
         if i:
             t = re.sub(r'^## For docs/.*\n+', '', t, flags=re.M)
             if re.match(r'^# ', t):
