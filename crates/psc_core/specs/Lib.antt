@@ -1,0 +1,4 @@
+pub mod Evidence
+pub mod Binder
+pub mod Numbers
+pub mod Expr
