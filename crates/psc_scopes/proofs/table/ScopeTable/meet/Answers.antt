@@ -1,0 +1,14 @@
+use Rattle.std.proofs.Common.{ℕ, List, subst}
+use Rattle.psc_scopes.specs.Scope.{Holds}
+use Rattle.psc_scopes.proofs.Scopes.{within_new}
+use Rattle.psc_scopes.proofs.table.ScopeTable.meet.Goals as goal
+
+pub returns-clause-left : goal.returns-clause-left
+returns-clause-left c =
+    within_new _ _ _ _ c.in_ok-common.common c.in-Some-Some.one.now c.in_ok-scope.ensures.kept c.in_ok-scope.ensures.number.0 c.in_ok-scope.ensures.number.1 c.in-Some-Some.ensures.list
+    (λ r h. subst (λ (l : List ℕ). Holds l r) c.as_slice.ensures.value (c.in_ok-common.ensures.left r h))
+
+pub returns-clause-right : goal.returns-clause-right
+returns-clause-right c =
+    within_new _ _ _ _ c.in_ok-common.common c.in-Some-Some.two.now c.in_ok-scope.ensures.kept c.in_ok-scope.ensures.number.0 c.in_ok-scope.ensures.number.1 c.in-Some-Some.ensures'.list
+    (λ r h. subst (λ (l : List ℕ). Holds l r) c.as_slice-2.ensures.value (c.in_ok-common.ensures.right r h))

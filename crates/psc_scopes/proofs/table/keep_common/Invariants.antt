@@ -1,0 +1,9 @@
+use Rattle.std.proofs.Common.{ℕ}
+use Rattle.psc_scopes.specs.Scope.{Holds}
+use Rattle.psc_scopes.proofs.table.keep_common.Given as goal
+
+abbrev pub invariant-loop-index : goal.invariant-loop-index
+invariant-loop-index l = record {
+  left : (r : ℕ) → Holds l.common.items r → Holds l.left r;
+  right : (r : ℕ) → Holds l.common.items r → Holds l.right r;
+}

@@ -1,0 +1,32 @@
+-- What the scope of a number is.
+use Rattle.std.specs.Prelude.{◌≡◌, ℕ, ◌-◌, ◌≤◌, ◌<◌, List, length, get_or, slice_get, Some, ◌⊎◌}
+use Rattle.std.specs.declared.vec.Vec.{Vec}
+use Rattle.std.specs.declared.alloc.Global.{Global}
+
+-- the rigid variable is one of the list
+abbrev pub Holds : List ℕ → ℕ → Type 0
+Holds list rigid = (i : ℕ) × (i < length list) × (get_or list i 0 ≡ rigid)
+
+-- the list does not fall
+abbrev pub Rises : List ℕ → Type 0
+Rises list = (i j : ℕ) → i ≤ j → j < length list → get_or list i 0 ≤ get_or list j 0
+
+-- no list falls
+abbrev pub AllRise : List (Vec ℕ Global) → Type 0
+AllRise lists = (i : ℕ) (list : Vec ℕ Global) → slice_get lists i ≡ Some list → Rises list.items
+
+-- the rigid variable is in the list of the scope
+abbrev pub IsListed : List (Vec ℕ Global) → ℕ → ℕ → Type 0
+IsListed lists scope rigid = (list : Vec ℕ Global) × (slice_get lists (scope - 1) ≡ Some list) × Holds list.items rigid
+
+-- the rigid variable lies in the scope: the scope 0 has all, any other one what its list has
+abbrev pub Lies : List (Vec ℕ Global) → ℕ → ℕ → Type 0
+Lies lists scope rigid = (scope ≡ 0) ⊎ IsListed lists scope rigid
+
+-- each rigid variable of the one scope lies in the other
+abbrev pub IsWithin : List (Vec ℕ Global) → ℕ → ℕ → Type 0
+IsWithin lists inner outer = (rigid : ℕ) → Lies lists inner rigid → Lies lists outer rigid
+
+-- scopes that were given stay what they were
+abbrev pub Extends : List (Vec ℕ Global) → List (Vec ℕ Global) → Type 0
+Extends old new = (i : ℕ) (list : Vec ℕ Global) → slice_get old i ≡ Some list → slice_get new i ≡ Some list

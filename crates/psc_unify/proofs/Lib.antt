@@ -1,0 +1,12 @@
+pub mod Small
+pub mod Trees
+pub mod Naming
+pub mod Adding
+pub mod Cases
+pub mod Standing
+pub mod Starting
+pub mod Asking
+pub mod Equating
+pub mod Solving
+pub mod Reading
+pub mod Promise

@@ -1,0 +1,67 @@
+-- A solver whose state stands at the equations is at a most general solution of them.
+use Rattle.std.proofs.Common.{◌≡◌, ℕ, ◌<◌, List, None, Some, slice_get, get_or, length, sym, ap, refl, ◌∙◌, subst, true, false}
+use Rattle.std.proofs.lemmas.Option.{slice_get_within, slice_get-get_or}
+use Rattle.psc_graph.specs.Tree.{Tree}
+use Rattle.psc_graph.specs.General.{kind_of}
+use Rattle.psc_type.specs.declared.ty.Ty.{Ty}
+use Rattle.psc_unify.specs.declared.state.State.{State}
+use Rattle.psc_unify.specs.declared.solver.Solver.{Solver}
+use Rattle.psc_unify.specs.declared.solver.Clash.{Clash}
+use Rattle.psc_unify.specs.Naming.{Naming}
+use Rattle.psc_unify.specs.Meaning.{tree}
+use Rattle.psc_unify.specs.Reading.{place_or, place_of, valued, Reads}
+use Rattle.psc_unify.specs.Solved.{Stands, Fits, Values, IsSolutionOf}
+use Rattle.psc_unify.proofs.Small.{lt_same}
+use Rattle.psc_unify.specs.Promise.{IsSolved, IsOwn, IsValue}
+use Rattle.psc_unify.proofs.Solving.{values_of, most_general}
+
+values_own : (unknowns : List ℕ) (v g : ℕ → Tree) → ((n : ℕ) → g n ≡ valued unknowns v n) → Values g v unknowns
+values_own unknowns v g same = record { at = λ x k e. same x ∙ ap (λ o. v (place_or x o)) e }
+
+own_solution : (s : Solver) (kinds : List ℕ) (eqs : List (Ty × Ty)) (st : Stands s.state.graph s.state.names s.state.unknowns.items kinds eqs) (e : Naming) → Fits e s.state.names → (g : ℕ → Tree) → IsOwn s g → IsSolutionOf e kinds eqs g
+own_solution s kinds eqs st e fits g own = record {
+  kind = λ x k h.
+      let below : x < length s.state.unknowns.items = lt_same x (length kinds) (length s.state.unknowns.items) (slice_get_within kinds x k h) st.count in
+      let p = get_or s.state.unknowns.items x 0 in
+      let at : slice_get s.state.unknowns.items x ≡ Some p = slice_get-get_or s.state.unknowns.items x 0 below in
+      ap kind_of (own.same x ∙ ap (λ o. own.nodes (place_or x o)) at) ∙ st.kind x p k at h own.nodes own.solves;
+  sides = st.sound e fits g own.nodes own.solves (values_own s.state.unknowns.items own.nodes g own.same);
+}
+
+goes_on : (s : Solver) (kinds : List ℕ) (eqs : List (Ty × Ty)) (st : Stands s.state.graph s.state.names s.state.unknowns.items kinds eqs) (e : Naming) → Fits e s.state.names → (g : ℕ → Tree) → IsSolutionOf e kinds eqs g → (h : ℕ → Tree) × IsOwn s h × ((x k : ℕ) → slice_get kinds x ≡ Some k → h x ≡ g x)
+goes_on s kinds eqs st e fits g sol =
+    let w = st.complete e fits g sol in (
+      valued s.state.unknowns.items w.0,
+      record { nodes = w.0; solves = w.1; same = λ n. refl },
+      λ x k h.
+          let below : x < length s.state.unknowns.items = lt_same x (length kinds) (length s.state.unknowns.items) (slice_get_within kinds x k h) st.count in
+          let p = get_or s.state.unknowns.items x 0 in
+          let at : slice_get s.state.unknowns.items x ≡ Some p = slice_get-get_or s.state.unknowns.items x 0 below in
+          ap (λ o. w.0 (place_or x o)) at ∙ sym (w.2.at x p at),
+    )
+
+pub value_of : (s : Solver) (x p : ℕ) (t : Ty) → p ≡ place_of s.state.unknowns.items x → Reads s.state t p → IsValue s x t
+value_of s x p t is reads = record {
+  value = λ e fits g own.
+      ap (λ (f : ℕ → Tree). tree e f t) (λ i n. own.same n i) ∙ reads.value e own.nodes fits own.solves ∙ ap own.nodes is ∙ sym (own.same x);
+}
+
+pub solved_by : (s : Solver) (kinds : List ℕ) (eqs : List (Ty × Ty)) → s.clash ≡ None → Stands s.state.graph s.state.names s.state.unknowns.items kinds eqs → IsSolved s kinds eqs
+solved_by s kinds eqs running st = record {
+  running = running;
+  stands = st;
+  values = values_of st.ready.value s.state.unknowns.items;
+  general = λ e fits. most_general s.state.graph s.state.names s.state.unknowns.items kinds eqs st e fits;
+  sound = λ e fits g own. own_solution s kinds eqs st e fits g own;
+  complete = λ e fits g sol. goes_on s kinds eqs st e fits g sol;
+}
+
+-- what else a solver has does not matter
+pub solved_again : (s t : Solver) (kinds : List ℕ) (eqs : List (Ty × Ty)) → t.clash ≡ s.clash → t.state ≡ s.state → IsSolved s kinds eqs → IsSolved t kinds eqs
+solved_again s t kinds eqs clash state h =
+    solved_by t kinds eqs (clash ∙ h.running)
+    (subst (λ (x : State). Stands x.graph x.names x.unknowns.items kinds eqs) (sym state) h.stands)
+
+-- a clash of scopes is no other clash
+pub other_flag : (a b : Clash) → a ≡ b → a.scopes_only ≡ true → b.scopes_only ≡ false → ⊥
+other_flag a b same flag other = let z : true ≡ false = sym flag ∙ ap (λ (x : Clash). x.scopes_only) same ∙ other in cc

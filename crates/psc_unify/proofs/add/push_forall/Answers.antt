@@ -1,0 +1,5 @@
+use Rattle.psc_unify.proofs.Adding.{adds_more}
+use Rattle.psc_unify.proofs.add.push_forall.Goals as goal
+
+pub returns-clause-adds : goal.returns-clause-adds
+returns-clause-adds c = adds_more _ _ _ c.in_ok-none.ensures.adds c.in_ok-place.ensures.adds

@@ -1,0 +1,5 @@
+use Rattle.psc_unify.specs.Solved.{Continues}
+use Rattle.psc_unify.proofs.opened.Opened.name_all.Given as goal
+
+abbrev pub invariant-loop-row : goal.invariant-loop-row
+invariant-loop-row l = Continues l.fn.names l.names

@@ -1,0 +1,15 @@
+use Rattle.std.proofs.Common.{sym, ◌∙◌, ◌++◌, ◌∷◌, []}
+use Rattle.psc_unify.proofs.Naming.{continues_more}
+use Rattle.psc_unify.proofs.Standing.{stands_named}
+use Rattle.psc_unify.proofs.Promise.{solved_by}
+use Rattle.psc_unify.proofs.solver.Solver.fresh.Goals as goal
+
+pub returns-clause-number : goal.returns-clause-number
+returns-clause-number c = λ kinds eqs h. c.in_ok-number.ensures.number ∙ sym h.stands.count
+
+pub returns-clause-solved : goal.returns-clause-solved
+returns-clause-solved c = λ kinds eqs h. (
+  c.in_ok-kind.kind,
+  solved_by _ (kinds ++ c.in_ok-kind.kind ∷ []) eqs h.running
+      (c.in_ok-number.ensures.stands kinds eqs (stands_named _ _ _ _ kinds eqs (continues_more _ _ _ c.in_ok-kind.ensures c.in_ok-bound.ensures) h.stands)),
+)

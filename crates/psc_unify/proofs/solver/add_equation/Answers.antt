@@ -1,0 +1,14 @@
+use Rattle.std.proofs.Common.{refl}
+use Rattle.psc_unify.proofs.Standing.{at_slice, none_slice, none_named}
+use Rattle.psc_unify.proofs.solver.add_equation.Goals as goal
+
+pub returns-in-Ok-clause-solved : goal.returns-in-Ok-clause-solved
+returns-in-Ok-clause-solved c = λ e plain kinds eqs st.
+    let yes = c.if-not-solved.false in
+    at_slice _ _ _ _ _ _ _ _ _ kinds eqs c.as_slice.ensures.value refl refl (c.in_ok-solved.ensures.solved (cc)) plain st
+
+pub returns-then-not-solved-clause-clash : goal.returns-then-not-solved-clause-clash
+returns-then-not-solved-clause-clash c = λ e plain kinds eqs st.
+    let no = c.if-not-solved.true in
+    none_named _ _ kinds _ c.in_ok-ended.ensures.names
+    (none_slice _ _ _ _ _ _ _ _ _ kinds eqs c.as_slice.ensures.value refl refl c.in_ok-take_back.ensures.names (c.in_ok-solved.ensures.clash (cc)) plain st)

@@ -1,0 +1,5 @@
+pub mod Naming
+pub mod Meaning
+pub mod Solved
+pub mod Reading
+pub mod Promise

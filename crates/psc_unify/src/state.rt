@@ -1,0 +1,137 @@
+// What a solver has: the graph, the scopes of its unknowns, and the names of what stands in it.
+ghost use Rattle.std.specs.Prelude.{◌≡◌, ℕ, ◌<◌, List, [], ◌∷◌, ◌++◌, length, OnOk, IfOk, IfSome, true, slice_get, Some};
+ghost use Rattle.psc_type.specs.declared.ty.Ty.{Ty};
+ghost use Rattle.psc_unify.specs.Solved.{Stands, Continues};
+ghost use Rattle.psc_unify.specs.Reading.{place_of};
+
+use crate::add::{known_place, push};
+use crate::kinds::STAR;
+use crate::tables::Names;
+use psc_graph::{Node, Stop};
+use psc_rows::Graph;
+use psc_scopes::{Bounds, ScopeTable};
+use psc_text::{Ident, NoMemory};
+use std::alloc::Global;
+use std::collections::BTreeMap;
+
+/// The nodes of a solver. An unknown that a caller asked for goes by its number in `unknowns`, and one
+/// that stands for the rest of two rows by the greatest numbers, downwards from its place.
+#[derive(Drop)]
+pub struct State {
+    pub graph: Graph,
+    pub scopes: ScopeTable,
+    pub bounds: Bounds,
+    pub names: Names,
+    pub unknowns: Vec<usize>,
+    pub numbers: BTreeMap<usize, u64>,
+}
+
+/// A refusal of the graph that is no clash is want of memory.
+pub fn no_memory(_stop: Stop) -> NoMemory {
+    NoMemory
+}
+
+/// Whether an unknown of this number is at the place.
+fn is_at(unknowns: &[usize], number: u64, place: usize) -> bool
+    ensures { result ≡ true → place_of unknowns.now number ≡ place }
+{
+    match unknowns.get(number as usize).copied() {
+        Some(own) => own == place,
+        None => false,
+    }
+}
+
+/// The number of an unknown that the solver made itself.
+fn made_number(unknowns: &[usize], place: usize) -> Option<u64>
+    ensures { IfSome result (λ number. place_of unknowns.now number ≡ place) }
+{
+    let number = u64::MAX - place as u64;
+    match unknowns.get(number as usize) {
+        Some(_) => None,
+        None => Some(number),
+    }
+}
+
+impl State {
+    /// The state without unknowns.
+    pub fn new(alloc: Global) -> Result<State, NoMemory>
+        ensures { IfOk result (λ state. Stands state.graph state.names state.unknowns.items [] []) }
+    {
+        let names = Names::new(alloc)?;
+        let graph = Graph::new(alloc);
+        let unknowns = Vec::new(alloc);
+        Ok(State {
+            graph,
+            scopes: ScopeTable::new(alloc),
+            bounds: Bounds::new(alloc),
+            names,
+            unknowns,
+            numbers: BTreeMap::new(alloc),
+        })
+    }
+
+    /// The place of an unknown of this solver.
+    pub fn known_place(&self, unknown: u64) -> Option<usize>
+        ensures known { unknown < length self.now.unknowns.items → IfSome result (λ place. slice_get self.now.unknowns.items unknown ≡ Some place) }
+        ensures place { IfSome result (λ place. place ≡ place_of self.now.unknowns.items unknown) }
+    {
+        known_place(&self.graph, self.unknowns.as_slice(), unknown)
+    }
+
+    /// Adds an unknown, and gives its number.
+    pub fn push_unknown(&mut self, kind: u64, scope: u64) -> Result<u64, NoMemory>
+        ensures number { IfOk result (λ number. number ≡ length self.old.unknowns.items) }
+        ensures names { self.new.names ≡ self.old.names }
+        ensures stands { OnOk result ((kinds : List ℕ) (eqs : List (Ty × Ty)) → Stands self.old.graph self.old.names self.old.unknowns.items kinds eqs → Stands self.new.graph self.new.names self.new.unknowns.items (kinds ++ kind ∷ []) eqs) }
+    {
+        let place = push(&mut self.graph, Node::Free(kind))?;
+        let number = self.unknowns.len() as u64;
+        self.unknowns.push(place)?;
+        self.numbers.insert(place, number)?;
+        self.bounds.keep();
+        self.bounds
+            .cover(self.graph.nodes.len())
+            .map_err(no_memory)?;
+        self.bounds.put(place, scope).map_err(no_memory)?;
+        Ok(number)
+    }
+
+    /// The number of the unknown at a place.
+    pub fn number_at(&self, place: usize) -> Option<u64>
+        ensures { IfSome result (λ number. place_of self.now.unknowns.items number ≡ place) }
+    {
+        match self.numbers.get(&place).copied() {
+            Some(number) => if is_at(self.unknowns.as_slice(), number, place) {
+                Some(number)
+            } else {
+                None
+            },
+            None => made_number(self.unknowns.as_slice(), place),
+        }
+    }
+}
+
+/// The number of a scope: the one that was used last where it has the same rigid variables.
+pub fn scope_number(
+    alloc: Global,
+    scopes: &mut ScopeTable,
+    names: &mut Names,
+    rigid: &[Ident],
+    last: u64,
+) -> Result<u64, NoMemory>
+    ensures { OnOk result (Continues names.old names.new) }
+{
+    let mut list = Vec::new(alloc);
+    for name in rigid {
+        let (number, _) = names.rigid(name, STAR)?;
+        list.push(number)?;
+    }
+    list.sort()?;
+    if scopes.has_exactly(last, list.as_slice()) {
+        return Ok(last);
+    }
+    match scopes.add(list) {
+        Ok(number) => Ok(number),
+        Err(stop) => Err(no_memory(stop)),
+    }
+}
