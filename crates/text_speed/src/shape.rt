@@ -130,11 +130,22 @@ impl Maker {
         })
     }
 
-    /// `holds given` and `add given 7`
+    /// `holds given`
+    fn guard(self) -> Result<CoreExpr, NoMemory> {
+        let holds = self.named("Bench", "holds")?;
+        self.app(holds, self.local("given")?)
+    }
+
+    /// `add given 7`
+    fn sum(self) -> Result<CoreExpr, NoMemory> {
+        let add = self.named("Data.Sum", "add")?;
+        let added = self.app(add, self.local("given")?)?;
+        self.app(added, self.int())
+    }
+
     fn guarded(self) -> Result<CoreGuarded, NoMemory> {
-        let guard = self.app(self.named("Bench", "holds")?, self.local("given")?)?;
-        let added = self.app(self.named("Data.Sum", "add")?, self.local("given")?)?;
-        let body = self.app(added, self.int())?;
+        let guard = self.guard()?;
+        let body = self.sum()?;
         Ok(CoreGuarded { guard, body })
     }
 
