@@ -1,0 +1,67 @@
+//! Runs scripts of a solver's calls, and prints what it answers.
+//!
+//! Of `rows.txt` a line that begins with `#` is printed as it stands; every other one is a script, which is
+//! printed with its answers on the line behind it. At the end stand types that no script can tell.
+#![tactic(auto)]
+
+mod fault;
+mod large;
+mod notation;
+mod printing;
+mod script;
+
+use crate::fault::Fault;
+use crate::large::{deep, shared};
+use crate::script::run;
+use std::alloc::Global;
+use std::{fs, io};
+
+fn print_line(out: &mut String, line: &str) -> Result<(), Fault> {
+    out.push_str(line)?;
+    out.push('\n')?;
+    Ok(())
+}
+
+fn print_answers(out: &mut String, answers: &str) -> Result<(), Fault> {
+    out.push_str("    ")?;
+    print_line(out, answers)
+}
+
+fn print_row(out: &mut String, alloc: Global, line: &str) -> Result<(), Fault> {
+    print_line(out, line)?;
+    if line.starts_with('#') {
+        return Ok(());
+    }
+    let answers = run(alloc, line)?;
+    print_answers(out, answers.as_str())
+}
+
+/// What is printed of the rows.
+fn texts(alloc: Global, rows: &str) -> Result<String, Fault> {
+    let mut out = String::new(alloc);
+    for line in rows.lines() {
+        print_row(&mut out, alloc, line)?;
+    }
+    print_line(
+        &mut out,
+        "# two towers of 60 levels, whose tops and then a bottom are equated",
+    )?;
+    let towers = shared(alloc)?;
+    print_answers(&mut out, towers.as_str())?;
+    print_line(
+        &mut out,
+        "# two types of 1,000 levels, and a third one of another inside",
+    )?;
+    let levels = deep(alloc)?;
+    print_answers(&mut out, levels.as_str())?;
+    Ok(out)
+}
+
+fn main(rt: HostRuntime) -> io::Result<()> {
+    let alloc = rt.alloc();
+    let rows = fs::read_to_string(&rt, "rows.txt")?;
+    match texts(alloc, rows.as_str()) {
+        Ok(text) => rt.print(text),
+        Err(fault) => println!(rt; "{fault}"),
+    }
+}
