@@ -1,12 +1,11 @@
 //! A module of as many declarations as are wanted, each of the same shape.
 //!
 //! The declaration of number 2 is `value2 = \found -> case found of`, with the alternatives
-//! `Just given | holds given -> add given 7` and `_ -> empty { label: "text of 2", list: [ found, 7 ] }`.
+//! `Just given -> add given 7` and `_ -> empty { label: "text of 2", list: [ found, 7 ] }`.
 
 use itoa::Buffer;
 use psc_core_tree::{
-    Ann, CoreAlternative, CoreBind, CoreBinder, CoreBinding, CoreExpr, CoreGuarded, CoreModule,
-    CoreOutcome, Field, Literal, Meta,
+    Ann, CoreAlternative, CoreBind, CoreBinder, CoreBinding, CoreExpr, CoreModule, CoreOutcome, Field, Literal, Meta,
 };
 use psc_items::SharedItems;
 use psc_text::{Ident, Label, ModuleName, NoMemory, Qualified, Span, Text, read_module_name};
@@ -130,12 +129,6 @@ impl Maker {
         })
     }
 
-    /// `holds given`
-    fn guard(self) -> Result<CoreExpr, NoMemory> {
-        let holds = self.named("Bench", "holds")?;
-        self.app(holds, self.local("given")?)
-    }
-
     /// `add given 7`
     fn sum(self) -> Result<CoreExpr, NoMemory> {
         let add = self.named("Data.Sum", "add")?;
@@ -143,17 +136,11 @@ impl Maker {
         self.app(added, self.int())
     }
 
-    fn guarded(self) -> Result<CoreGuarded, NoMemory> {
-        let guard = self.guard()?;
-        let body = self.sum()?;
-        Ok(CoreGuarded { guard, body })
-    }
-
     fn first(self) -> Result<CoreAlternative, NoMemory> {
-        let guarded = self.guarded()?;
+        let body = self.sum()?;
         Ok(CoreAlternative {
             binders: self.items([self.just()?])?,
-            outcome: CoreOutcome::Guarded(self.items([guarded])?),
+            outcome: CoreOutcome::Always(body),
         })
     }
 
