@@ -1,7 +1,7 @@
 pub mod Small
 pub mod Trees
-pub mod Tables
-pub mod Kinds
+pub mod Numbering
+pub mod Distinct
 pub mod Naming
 pub mod Named
 pub mod Adding

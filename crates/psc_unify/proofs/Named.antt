@@ -14,15 +14,13 @@ use Rattle.psc_unify.specs.declared.names.Constant.TheVariants.{Any}
 use Rattle.psc_unify.specs.declared.tables.Names.{Names}
 use Rattle.psc_unify.specs.Kinds.{shape, is_same, AreDistinct}
 use Rattle.psc_unify.specs.Solved.{HasNaming}
-use Rattle.psc_unify.proofs.Kinds.{same_itself}
+use Rattle.psc_unify.proofs.Distinct.{same_itself}
+use Rattle.psc_unify.proofs.Small.{some_same}
 
 -- the place of the first kind of a list that is this one
 place_in : List Kind → Kind → ℕ
 place_in [] kind = 0
 place_in (k ∷ ks) kind = cond (is_same k kind) 0 (suc (place_in ks kind))
-
-some_same : (k l : Kind) → Some k ≡ Some l → k ≡ l
-some_same k l e = cc
 
 below : (n : ℕ) → 0 < suc n
 below n = omega arith

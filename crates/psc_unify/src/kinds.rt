@@ -25,7 +25,7 @@ pub struct KindTable {
 }
 
 /// Whether two kinds are one, where all kinds of rows count as one.
-#[tactic(auto, using(crate::proofs::Kinds::shape-Star, crate::proofs::Kinds::shape-Constr, crate::proofs::Kinds::shape-Sym, crate::proofs::Kinds::shape-RowOf, crate::proofs::Kinds::shape-Arrow, crate::proofs::Kinds::shape-Unknown))]
+#[tactic(auto, using(crate::proofs::Distinct::shape_star, crate::proofs::Distinct::shape_constr, crate::proofs::Distinct::shape_sym, crate::proofs::Distinct::shape_row, crate::proofs::Distinct::shape_arrow, crate::proofs::Distinct::shape_unknown))]
 pub fn is_same_kind(left: &Kind, right: &Kind) -> bool
     ensures { result ≡ is_same left.now right.now }
 {
@@ -96,8 +96,8 @@ impl KindTable {
         None
     }
 
-    /// The number of a kind, to which this result belongs if it is a new one.
-    fn add(&mut self, kind: &Kind, result: u64) -> Result<u64, NoMemory>
+    /// The number of a kind, of which an application has the other kind if it is a new one.
+    fn add(&mut self, kind: &Kind, applied: u64) -> Result<u64, NoMemory>
         ensures kinds { OnOk result (Extends self.old.kinds.items self.new.kinds.items) }
         ensures results { OnOk result (Extends self.old.results.items self.new.results.items) }
     {
@@ -107,7 +107,7 @@ impl KindTable {
         let number = self.kinds.len() as u64;
         let copy = kind.clone()?;
         self.kinds.push(copy)?;
-        self.results.push(result)?;
+        self.results.push(applied)?;
         Ok(number)
     }
 

@@ -3,7 +3,7 @@ use Rattle.std.specs.BTreeMap.{get}
 use Rattle.psc_unify.specs.declared.names.Constant.{Constant}
 use Rattle.psc_unify.specs.contracts.names.ConstantOrd.TheImpl as constant_ord
 use Rattle.psc_unify.specs.contracts.names.ConstantOrd.TheImpl.Laws.{total-law}
-use Rattle.psc_unify.proofs.Tables.{indexed_tried, row_given, rows_kept}
+use Rattle.psc_unify.proofs.Numbering.{indexed_tried, row_given, rows_kept}
 use Rattle.psc_unify.proofs.names.Constants.number.Goals as goal
 
 pub invariant_of-self-2 : goal.invariant_of-self-2

@@ -3,7 +3,7 @@ use Rattle.std.specs.BTreeMap.{get}
 use Rattle.psc_text.specs.declared.names.Label.{Label}
 use Rattle.psc_text.specs.contracts.names.LabelOrd.TheImpl as label_ord
 use Rattle.psc_text.specs.contracts.names.LabelOrd.TheImpl.Laws.{total-law}
-use Rattle.psc_unify.proofs.Tables.{indexed_tried, row_given, rows_kept}
+use Rattle.psc_unify.proofs.Numbering.{indexed_tried, row_given, rows_kept}
 use Rattle.psc_unify.proofs.names.Labels.number.Goals as goal
 
 pub invariant_of-self-2 : goal.invariant_of-self-2

@@ -3,7 +3,7 @@ use Rattle.std.specs.BTreeMap.{get}
 use Rattle.psc_text.specs.declared.names.Ident.{Ident}
 use Rattle.psc_text.specs.contracts.names.IdentOrd.TheImpl as ident_ord
 use Rattle.psc_text.specs.contracts.names.IdentOrd.TheImpl.Laws.{total-law}
-use Rattle.psc_unify.proofs.Tables.{indexed_tried, row_given, rows_kept}
+use Rattle.psc_unify.proofs.Numbering.{indexed_tried, row_given, rows_kept}
 use Rattle.psc_unify.proofs.names.Rigids.number.Goals as goal
 
 pub invariant_of-self-2 : goal.invariant_of-self-2

@@ -1,5 +1,5 @@
 -- A table of kinds with a kind more, and the place of a kind.
-use Rattle.std.proofs.Common.{◌≡◌, ℕ, ◌<◌, ◌≤◌, suc, zero, ◌⊎◌, Bool, true, false, ◌&&◌, nat_eq, cond, List, [], ◌∷◌, ◌++◌, length, Option, None, Some, slice_get, ap, refl, sym, ◌∙◌, subst, inl, inr, arith, rules}
+use Rattle.std.proofs.Common.{◌≡◌, ℕ, ◌+◌, ◌<◌, ◌≤◌, suc, zero, ◌⊎◌, Bool, true, false, ◌&&◌, nat_eq, cond, List, [], ◌∷◌, ◌++◌, length, Option, None, Some, slice_get, ap, refl, sym, ◌∙◌, subst, inl, inr, arith, rules}
 use Rattle.std.proofs.lemmas.Bool.{eq-eqb}
 use Rattle.std.proofs.lemmas.Option.{slice_get_within}
 use Rattle.psc_type.specs.declared.kind.Kind.{Kind, the_lemmas}
@@ -7,23 +7,23 @@ use Rattle.psc_type.specs.declared.kind.Kind.TheVariants as kind
 use Rattle.psc_graph.proofs.Writes.{after_push}
 use Rattle.psc_unify.specs.Kinds.{Shape, Types, Constraints, Symbols, Rows, Arrow, Unknown, shape, is_same_shape, is_same, IsNew, AreDistinct}
 
-pub shape-Star : shape kind.Star ≡ Types
-shape-Star = search (rules, the_lemmas)
+pub shape_star : shape kind.Star ≡ Types
+shape_star = search (rules, the_lemmas)
 
-pub shape-Constr : shape kind.Constr ≡ Constraints
-shape-Constr = search (rules, the_lemmas)
+pub shape_constr : shape kind.Constr ≡ Constraints
+shape_constr = search (rules, the_lemmas)
 
-pub shape-Sym : shape kind.Sym ≡ Symbols
-shape-Sym = search (rules, the_lemmas)
+pub shape_sym : shape kind.Sym ≡ Symbols
+shape_sym = search (rules, the_lemmas)
 
-pub shape-RowOf : (k : Kind) → shape (kind.RowOf k) ≡ Rows
-shape-RowOf k = search (rules, the_lemmas)
+pub shape_row : (k : Kind) → shape (kind.RowOf k) ≡ Rows
+shape_row k = search (rules, the_lemmas)
 
-pub shape-Arrow : (a b : Kind) → shape (kind.Arrow a b) ≡ Arrow (shape a) (shape b)
-shape-Arrow a b = search (rules, the_lemmas)
+pub shape_arrow : (a b : Kind) → shape (kind.Arrow a b) ≡ Arrow (shape a) (shape b)
+shape_arrow a b = search (rules, the_lemmas)
 
-pub shape-Unknown : (n : ℕ) → shape (kind.Unknown n) ≡ Unknown n
-shape-Unknown n = search (rules, the_lemmas)
+pub shape_unknown : (n : ℕ) → shape (kind.Unknown n) ≡ Unknown n
+shape_unknown n = search (rules, the_lemmas)
 
 pub same_itself : (s : Shape) → is_same_shape s s ≡ true
 same_itself Types = refl
@@ -65,8 +65,8 @@ distinct_tried kinds new x y false is same none all = subst AreDistinct (sym is)
 
 -- a kind at one place more
 pub new_more : (kinds : List Kind) (x : Kind) (n : ℕ) → ((m : ℕ) (k : Kind) → m < n → slice_get kinds m ≡ Some k → is_same k x ≡ false) → ((k : Kind) → slice_get kinds n ≡ Some k → is_same k x ≡ false)
-    → (m : ℕ) (k : Kind) → m < suc n → slice_get kinds m ≡ Some k → is_same k x ≡ false
-new_more kinds x n before here m k lt e = elim (same_or_below m n lt) [
+    → (m : ℕ) (k : Kind) → m < n + 1 → slice_get kinds m ≡ Some k → is_same k x ≡ false
+new_more kinds x n before here m k lt e = elim (same_or_below m n (omega arith)) [
   | inl h ↦ here k (ap (slice_get kinds) (sym h) ∙ e)
   | inr h ↦ before m k h e
 ]

@@ -8,9 +8,7 @@ use Rattle.std.specs.BTreeMap.{BTreeMap, get, is_at, Updates, IsUnchanged}
 use Rattle.std.specs.Map.{lookup}
 use Rattle.psc_graph.proofs.Writes.{after_push, before_push, pushed}
 use Rattle.psc_unify.specs.Tables.{Extends, AreIndexed}
-
-none_some : {A : Type 0} (x : A) → None ≡ Some x → ⊥
-none_some x e = cc
+use Rattle.psc_unify.proofs.Small.{none_some}
 
 true_or_false : (b : Bool) → (b ≡ true) ⊎ (b ≡ false)
 true_or_false true = inl refl
