@@ -18,7 +18,7 @@ use Rattle.psc_unify.proofs.Distinct.{same_itself}
 use Rattle.psc_unify.proofs.Small.{some_same}
 
 -- the place of the first kind of a list that is this one
-place_in : List Kind → Kind → ℕ
+abbrev place_in : List Kind → Kind → ℕ
 place_in [] kind = 0
 place_in (k ∷ ks) kind = cond (is_same k kind) 0 (suc (place_in ks kind))
 
@@ -36,46 +36,46 @@ place_is (k ∷ ks) (suc n) kind all e =
     ap (λ b. cond b 0 (suc (place_in ks kind))) (all 0 (suc n) k kind (below n) refl e)
     ∙ ap suc (place_is ks n kind (λ a b x y lt f g. all (suc a) (suc b) x y (more a b lt) f g) e)
 
-number_or : ℕ → Option ℕ → ℕ
+abbrev number_or : ℕ → Option ℕ → ℕ
 number_or n None = n
 number_or n (Some m) = m
 
-constant_row : Option (Constant × ℕ) → ℕ → Leaf
+abbrev constant_row : Option (Constant × ℕ) → ℕ → Leaf
 constant_row None i = leaf.NoArgument
 constant_row (Some row) i = leaf.Constant i row.1
 
-rigid_row : Option (Ident × ℕ) → ℕ → Leaf
+abbrev rigid_row : Option (Ident × ℕ) → ℕ → Leaf
 rigid_row None i = leaf.NoArgument
 rigid_row (Some row) i = leaf.Rigid i row.1
 
 module _ (n : Names) where
-  constant_at : Option ℕ → Leaf
+  abbrev constant_at : Option ℕ → Leaf
   constant_at None = leaf.NoArgument
   constant_at (Some i) = constant_row (slice_get n.constants.rows.items i) i
 
-  constant_of : Constant → Leaf
+  abbrev constant_of : Constant → Leaf
   constant_of c = constant_at (get (constant_ord.ghosts).cmp n.constants.numbers c)
 
   constant_is : (i k : ℕ) (c : Constant) → slice_get n.constants.rows.items i ≡ Some (c, k) → constant_of c ≡ leaf.Constant i k
   constant_is i k c e = ap constant_at (n.constants.indexed i (c, k) e) ∙ ap (λ o. constant_row o i) e
 
-  any_of : Kind → Leaf
+  abbrev any_of : Kind → Leaf
   any_of kind = constant_of (Any (place_in n.kinds.kinds.items kind))
 
   any_is : (i k m : ℕ) (kind : Kind) → slice_get n.constants.rows.items i ≡ Some (Any m, k) → slice_get n.kinds.kinds.items m ≡ Some kind → any_of kind ≡ leaf.Constant i k
   any_is i k m kind e t = ap (λ p. constant_of (Any p)) (place_is n.kinds.kinds.items m kind n.kinds.distinct t) ∙ constant_is i k (Any m) e
 
-  rigid_at : Option ℕ → Leaf
+  abbrev rigid_at : Option ℕ → Leaf
   rigid_at None = leaf.NoArgument
   rigid_at (Some i) = rigid_row (slice_get n.rigids.rows.items i) i
 
-  rigid_of : Ident → Leaf
+  abbrev rigid_of : Ident → Leaf
   rigid_of x = rigid_at (get (ident_ord.ghosts).cmp n.rigids.numbers x)
 
-  label_of : Label → ℕ
+  abbrev label_of : Label → ℕ
   label_of l = number_or 0 (get (label_ord.ghosts).cmp n.labels.numbers l)
 
-  result_of : Option ℕ → ℕ
+  abbrev result_of : Option ℕ → ℕ
   result_of None = 1
   result_of (Some k) = number_or 1 (slice_get n.kinds.results.items k)
 
