@@ -5,7 +5,8 @@
 
 use itoa::Buffer;
 use psc_core_tree::{
-    Ann, CoreAlternative, CoreBind, CoreBinder, CoreBinding, CoreExpr, CoreModule, CoreOutcome, Field, Literal, Meta,
+    Ann, CoreAlternative, CoreBind, CoreBinder, CoreBinding, CoreExpr, CoreModule, CoreOutcome,
+    Field, Literal, Meta,
 };
 use psc_items::SharedItems;
 use psc_text::{Ident, Label, ModuleName, NoMemory, Qualified, Span, Text, read_module_name};
