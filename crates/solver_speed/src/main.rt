@@ -174,33 +174,44 @@ fn towers(alloc: Global) -> anyhow::Result<()> {
     Ok(())
 }
 
+fn text(alloc: Global, word: &str, number: u32) -> anyhow::Result<Text> {
+    let string = format!(in alloc; "{word}{number}")?;
+    Ok(Text::from_string(string)?)
+}
+
+fn variable(alloc: Global, word: &str, number: u32) -> anyhow::Result<Ident> {
+    Ok(Ident(text(alloc, word, number)?))
+}
+
+/// `forall name. Pair name body`.
+fn bind(alloc: Global, name: Ident, body: Ty) -> anyhow::Result<Ty> {
+    let inner = pair(alloc, Ty::Var(name.clone()?), body)?;
+    Ok(Ty::Forall(name, Kind::Star, Shared::new(alloc, inner)?))
+}
+
 /// 2,000 `forall`s inside each other, twice.
 fn nested(alloc: Global) -> anyhow::Result<()> {
     let mut solver = start(alloc)?;
     let mut left = constructor(alloc, "Int")?;
     let mut right = constructor(alloc, "Int")?;
     for number in 0..2_000 {
-        let one = Ident(Text::from_string(format!(in alloc; "a{number}")?)?);
-        let two = Ident(Text::from_string(format!(in alloc; "b{number}")?)?);
-        let first = pair(alloc, Ty::Var(one.clone()?), left)?;
-        let second = pair(alloc, Ty::Var(two.clone()?), right)?;
-        left = Ty::Forall(one, Kind::Star, Shared::new(alloc, first)?);
-        right = Ty::Forall(two, Kind::Star, Shared::new(alloc, second)?);
+        left = bind(alloc, variable(alloc, "a", number)?, left)?;
+        right = bind(alloc, variable(alloc, "b", number)?, right)?;
     }
     equal(alloc, &mut solver, &left, &right)
+}
+
+fn field(alloc: Global, number: u32, rest: Ty) -> anyhow::Result<Ty> {
+    let label = Label(text(alloc, "l", number)?);
+    let int = constructor(alloc, "Int")?;
+    Ok(Ty::RowCons(label, Shared::new(alloc, int)?, Shared::new(alloc, rest)?))
 }
 
 /// A row of 2,000 labels from `first` on, before an unknown.
 fn labels(alloc: Global, first: u32, tail: u64) -> anyhow::Result<Ty> {
     let mut row = Ty::Unknown(tail);
     for index in 0..2_000_u32 {
-        let number = first.wrapping_add(index) % 4_000;
-        let label = Label(Text::from_string(format!(in alloc; "l{number}")?)?);
-        row = Ty::RowCons(
-            label,
-            Shared::new(alloc, constructor(alloc, "Int")?)?,
-            Shared::new(alloc, row)?,
-        );
+        row = field(alloc, first.wrapping_add(index) % 4_000, row)?;
     }
     Ok(row)
 }
@@ -226,6 +237,45 @@ fn star(alloc: Global) -> anyhow::Result<()> {
     }
     let int = constructor(alloc, "Int")?;
     equal(alloc, &mut solver, &Ty::Unknown(last), &int)
+}
+
+/// All of the rigid variables, as a scope.
+fn scope_of(alloc: Global, rigid: &[Ident]) -> anyhow::Result<Scope> {
+    let mut names = Vec::new(alloc);
+    for name in rigid {
+        names.push(name.clone()?)?;
+    }
+    Ok(Scope {
+        rigid: SharedItems::from_vec(alloc, names)?,
+    })
+}
+
+/// A new unknown w of the scope, where an outer one is equal to `Array w`.
+fn enter_scope(
+    alloc: Global,
+    solver: &mut Solver,
+    outer: u64,
+    scope: &Scope,
+) -> anyhow::Result<u64> {
+    let inner = solver.fresh(alloc, Kind::Star, scope)?;
+    let value = array(alloc, Ty::Unknown(inner))?;
+    equal(alloc, solver, &Ty::Unknown(outer), &value)?;
+    Ok(inner)
+}
+
+/// 2,000 scopes inside each other: `u(k) ~ Array u(k+1)`, where the scope of `u(k)` is the first `k`
+/// rigid variables.
+fn nested_scopes(alloc: Global) -> anyhow::Result<()> {
+    let mut solver = start(alloc)?;
+    let mut rigid = Vec::new(alloc);
+    let mut last = fresh(alloc, &mut solver)?;
+    for number in 0..2_000_u32 {
+        let name = variable(alloc, "a", number)?;
+        rigid.push(solver.rigid(alloc, &name, Kind::Star)?)?;
+        let scope = scope_of(alloc, rigid.as_slice())?;
+        last = enter_scope(alloc, &mut solver, last, &scope)?;
+    }
+    Ok(())
 }
 
 /// Solves the case of a number, and gives its name. None past the last.
@@ -262,6 +312,10 @@ fn solve_case(alloc: Global, number: u32) -> anyhow::Result<Option<&'static str>
         7 => {
             rows(alloc)?;
             Ok(Some("rows of 2,000 labels"))
+        }
+        8 => {
+            nested_scopes(alloc)?;
+            Ok(Some("2,000 scopes inside each other"))
         }
         _ => Ok(None),
     }
