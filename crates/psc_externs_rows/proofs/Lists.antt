@@ -45,8 +45,8 @@ pub record IsLeft {A : Type 0} (json : A → Data) (keeps : A → Bool) (done wh
   pub written : ds ≡ map json left
   pub kept : list_all keeps left ≡ true
 
-pub none_done : {A : Type 0} (json : A → Data) (keeps : A → Bool) (whole : List A) (ds : List Data) → list_all keeps whole ≡ true → ds ≡ map json whole → IsLeft json keeps [] whole ds
-none_done json keeps whole ds h e = record { left = whole; joined = refl; written = e; kept = h }
+pub none_done : {A : Type 0} (json : A → Data) (keeps : A → Bool) (done whole : List A) (ds : List Data) → done ≡ [] → list_all keeps whole ≡ true → ds ≡ map json whole → IsLeft json keeps done whole ds
+none_done json keeps done whole ds none h e = record { left = whole; joined = ap (λ l. l ++ whole) (sym none); written = e; kept = h }
 
 -- the next row, where the first of the data is left
 pub record IsNext {A : Type 0} (json : A → Data) (keeps : A → Bool) (done whole : List A) (d : Data) (ds : List Data) : Type 0 where

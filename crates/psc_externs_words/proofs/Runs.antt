@@ -1,8 +1,9 @@
 -- Words from the last to the first, one more at each turn.
-use Rattle.std.proofs.Common.{◌≡◌, ℕ, zero, suc, ◌+◌, ◌-◌, ◌<◌, ◌≤◌, List, [], ◌∷◌, length, drop, get_or, drop-cons, Option, Some, None, option_and_then, sym, ap, ◌∙◌, arith}
+use Rattle.std.proofs.Common.{◌≡◌, ℕ, zero, suc, ◌+◌, ◌-◌, ◌<◌, ◌≤◌, List, [], ◌∷◌, length, drop, get_or, drop-cons, Option, Some, None, option_and_then, Result, Ok, Err, IfOk, sym, ap, ◌∙◌, arith}
 use Rattle.std.proofs.Math.Seq.{drop-length}
 use Rattle.psc_externs_words.specs.Reading.{Stack, lone, made, run, step}
 use Rattle.psc_externs_words.specs.Words.{Words}
+use Rattle.psc_externs_words.specs.declared.stack.Item.{Item}
 
 pub run-start : (ws : Words) → run (drop (length ws - 0) ws) [] ≡ Some []
 unfolding run
@@ -37,3 +38,8 @@ pub made-all : (ws : Words) (turn : ℕ) (st : Stack) → length ws ≤ turn →
 made-all ws turn st le h =
     let none : length ws - turn ≡ 0 = omega arith in
     ap (option_and_then lone) (sym (ap (λ n. run (drop n ws) []) none) ∙ h)
+
+-- what words make is what so few of them make
+pub within : {E : Type 0} (r : Result (Option Item) E) (ws : Words) → IfOk r (λ o. o ≡ made ws) → IfOk r (λ o. length ws ≤ 20000 → o ≡ made ws)
+within (Ok o) ws h = λ _. h
+within (Err e) ws h = tt

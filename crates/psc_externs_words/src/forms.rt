@@ -71,6 +71,7 @@ pub fn read_constraint(alloc: Global, words: &[Text]) -> Result<Option<ExternCon
 }
 
 /// What the words make, where they are no more than an interface file may hold.
+#[tactic(auto, using(crate::proofs::Runs::within))]
 fn made_within(alloc: Global, words: &[Text]) -> Result<Option<Item>, NoMemory>
     ensures { IfOk result (λ o. length words.now ≤ 20000 → o ≡ reading.made words.now) }
 {
