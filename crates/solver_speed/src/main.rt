@@ -126,17 +126,18 @@ fn chain_flat(alloc: Global) -> anyhow::Result<()> {
     equal(alloc, &mut solver, &Ty::Unknown(first), &int)
 }
 
-/// A balanced type of so many levels over one unknown.
+/// A balanced type of so many levels of pairs over one unknown. Both halves of a pair are one shared type, which the
+/// solver walks as often as it stands there.
 fn balanced(alloc: Global, levels: u32, leaf: u64) -> anyhow::Result<Ty> {
-    if levels == 0 {
-        return Ok(Ty::Unknown(leaf));
+    let mut whole = Ty::Unknown(leaf);
+    for _ in 0..levels {
+        let left = whole.clone()?;
+        whole = pair(alloc, left, whole)?;
     }
-    let left = balanced(alloc, levels - 1, leaf)?;
-    let right = balanced(alloc, levels - 1, leaf)?;
-    pair(alloc, left, right)
+    Ok(whole)
 }
 
-/// Two types of 65,535 nodes, equated 50,000 times.
+/// Two types of 65,533 nodes, equated 50,000 times.
 fn large_twice(alloc: Global) -> anyhow::Result<()> {
     let mut solver = start(alloc)?;
     let leaf = fresh(alloc, &mut solver)?;
@@ -299,7 +300,7 @@ fn solve_case(alloc: Global, number: u32) -> anyhow::Result<Option<&'static str>
         }
         4 => {
             large_twice(alloc)?;
-            Ok(Some("two types of 65,535 nodes, equated 50,000 times"))
+            Ok(Some("two types of 65,533 nodes, equated 50,000 times"))
         }
         5 => {
             towers(alloc)?;
