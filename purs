@@ -22,7 +22,7 @@ build() {
     log=$(mktemp)
     began=$(mktemp)
     SECONDS=0
-    echo "purs: proving and building the program; the first time this takes some minutes" >&2
+    echo "purs: proving and building the program; the first time this takes up to half an hour" >&2
     answer=$(cd "$crate" && rt run 2>"$log" </dev/null) || true
     if [ "$answer" != "purs: bad words" ]; then
         cat "$log" >&2

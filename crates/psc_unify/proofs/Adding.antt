@@ -16,7 +16,8 @@ use Rattle.psc_type.specs.declared.ty.Ty.{Ty}
 use Rattle.psc_type.specs.declared.ty.Ty.TheVariants as ty
 use Rattle.psc_unify.specs.declared.names.Constant.{Constant}
 use Rattle.psc_unify.specs.declared.tables.Names.{Names}
-use Rattle.psc_unify.specs.Naming.{Naming, IsResult}
+use Rattle.psc_unify.specs.Tables.{IsResult}
+use Rattle.psc_unify.specs.Naming.{Naming}
 use Rattle.psc_unify.specs.Meaning.{tree}
 use Rattle.psc_unify.specs.Solved.{Fits, Continues, Adds, Means}
 use Rattle.psc_unify.proofs.Naming.{fits_before}

@@ -14,7 +14,8 @@ use Rattle.psc_type.specs.declared.ty.Ty.{Ty}
 use Rattle.psc_type.specs.declared.ty.Ty.TheVariants as ty
 use Rattle.psc_unify.specs.declared.names.Constant.{Constant}
 use Rattle.psc_unify.specs.declared.tables.Names.{Names}
-use Rattle.psc_unify.specs.Naming.{Naming, IsResult}
+use Rattle.psc_unify.specs.Tables.{IsResult}
+use Rattle.psc_unify.specs.Naming.{Naming}
 use Rattle.psc_unify.specs.Meaning.{tree, is_plain}
 use Rattle.psc_unify.specs.Solved.{Continues, Adds, Means}
 use Rattle.psc_unify.proofs.Adding.{means_more, means_named, means_rigid, means_unknown, means_constant, means_row, means_app}

@@ -1,6 +1,9 @@
 pub mod Small
 pub mod Trees
+pub mod Numbering
+pub mod Distinct
 pub mod Naming
+pub mod Named
 pub mod Adding
 pub mod Cases
 pub mod Standing

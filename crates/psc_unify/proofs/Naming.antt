@@ -3,7 +3,8 @@ use Rattle.std.proofs.Common.{List, [], ◌∷◌, ◌++◌}
 use Rattle.psc_graph.proofs.Writes.{before_push}
 use Rattle.psc_unify.specs.declared.names.Constant.TheVariants.{Any}
 use Rattle.psc_unify.specs.declared.tables.Names.{Names}
-use Rattle.psc_unify.specs.Naming.{Naming, Extends}
+use Rattle.psc_unify.specs.Tables.{Extends}
+use Rattle.psc_unify.specs.Naming.{Naming}
 use Rattle.psc_unify.specs.Solved.{Fits, Continues}
 
 pub extends_none : {X : Type 0} (xs : List X) → Extends xs xs

@@ -10,9 +10,10 @@ use Rattle.psc_unify.specs.declared.solver.Clash.{Clash}
 use Rattle.psc_unify.specs.Naming.{Naming}
 use Rattle.psc_unify.specs.Meaning.{tree}
 use Rattle.psc_unify.specs.Reading.{place_or, place_of, valued, Reads}
-use Rattle.psc_unify.specs.Solved.{Stands, Fits, Values, IsSolutionOf}
+use Rattle.psc_unify.specs.Solved.{Stands, Fits, Values, IsSolutionOf, HasNone}
 use Rattle.psc_unify.proofs.Small.{lt_same}
-use Rattle.psc_unify.specs.Promise.{IsSolved, IsOwn, IsValue}
+use Rattle.psc_unify.specs.Promise.{IsSolved, IsUnsolvable, IsOwn, IsValue}
+use Rattle.psc_unify.proofs.Named.{named}
 use Rattle.psc_unify.proofs.Solving.{values_of, most_general}
 
 values_own : (unknowns : List ℕ) (v g : ℕ → Tree) → ((n : ℕ) → g n ≡ valued unknowns v n) → Values g v unknowns
@@ -49,6 +50,7 @@ value_of s x p t is reads = record {
 pub solved_by : (s : Solver) (kinds : List ℕ) (eqs : List (Ty × Ty)) → s.clash ≡ None → Stands s.state.graph s.state.names s.state.unknowns.items kinds eqs → IsSolved s kinds eqs
 solved_by s kinds eqs running st = record {
   running = running;
+  named = named s.state.names;
   stands = st;
   values = values_of st.ready.value s.state.unknowns.items;
   general = λ e fits. most_general s.state.graph s.state.names s.state.unknowns.items kinds eqs st e fits;
@@ -56,7 +58,13 @@ solved_by s kinds eqs running st = record {
   complete = λ e fits g sol. goes_on s kinds eqs st e fits g sol;
 }
 
+pub unsolvable_by : (s : Solver) (kinds : List ℕ) (eqs : List (Ty × Ty)) → HasNone s.state.names kinds eqs → IsUnsolvable s kinds eqs
+unsolvable_by s kinds eqs none = record { named = named s.state.names; none = none }
+
 -- what else a solver has does not matter
+pub unsolvable_again : (s t : Solver) (kinds : List ℕ) (eqs : List (Ty × Ty)) → t.state ≡ s.state → IsUnsolvable s kinds eqs → IsUnsolvable t kinds eqs
+unsolvable_again s t kinds eqs state h = unsolvable_by t kinds eqs (subst (λ (x : State). HasNone x.names kinds eqs) (sym state) h.none)
+
 pub solved_again : (s t : Solver) (kinds : List ℕ) (eqs : List (Ty × Ty)) → t.clash ≡ s.clash → t.state ≡ s.state → IsSolved s kinds eqs → IsSolved t kinds eqs
 solved_again s t kinds eqs clash state h =
     solved_by t kinds eqs (clash ∙ h.running)

@@ -23,7 +23,8 @@ use Rattle.psc_unify.specs.declared.names.Constant.{Constant}
 use Rattle.psc_unify.specs.declared.names.Constant.TheVariants.{Any}
 use Rattle.psc_unify.specs.declared.state.State.{State}
 use Rattle.psc_unify.specs.declared.read.Reader.{Reader}
-use Rattle.psc_unify.specs.Naming.{Naming, IsResult}
+use Rattle.psc_unify.specs.Tables.{IsResult}
+use Rattle.psc_unify.specs.Naming.{Naming}
 use Rattle.psc_unify.specs.Meaning.{tree}
 use Rattle.psc_unify.specs.Reading.{place_of, valued, Reads, AllRead, IsReadyAt, IsLeafOf, IsJoinOf, IsFieldOf}
 use Rattle.psc_unify.proofs.Adding.{kind_at, result_of}

@@ -1,3 +1,5 @@
+pub mod Tables
+pub mod Kinds
 pub mod Naming
 pub mod Meaning
 pub mod Solved

@@ -7,7 +7,7 @@ use Rattle.psc_unify.specs.Naming.{Naming}
 use Rattle.psc_graph.specs.General.{IsSolution}
 use Rattle.psc_unify.specs.Meaning.{tree}
 use Rattle.psc_unify.specs.Reading.{valued}
-use Rattle.psc_unify.specs.Solved.{Stands, Fits, IsSolutionOf, IsMostGeneralOf, HasNone, ArePlain}
+use Rattle.psc_unify.specs.Solved.{Stands, Fits, HasNaming, IsSolutionOf, IsMostGeneralOf, HasNone, ArePlain}
 
 -- values for all unknowns, those that the solver made itself too, that solve its graph
 pub record IsOwn (s : Solver) (g : ℕ → Tree) : Type 0 where
@@ -19,18 +19,20 @@ pub record IsOwn (s : Solver) (g : ℕ → Tree) : Type 0 where
 pub record IsValue (s : Solver) (unknown : ℕ) (ty : Ty) : Type 0 where
   pub value : (e : Naming) → Fits e s.state.names → (g : ℕ → Tree) → IsOwn s g → tree e g ty ≡ g unknown
 
--- the unknowns were made with these kinds, the values are a most general solution of the equations, and the solutions of the equations are those of the graph
+-- a naming fits, the unknowns were made with these kinds, the values are a most general solution of the equations, and the solutions of the equations are those of the graph
 pub record IsSolved (s : Solver) (kinds : List ℕ) (eqs : List (Ty × Ty)) : Type 0 where
   pub running : s.clash ≡ None
+  pub named : HasNaming s.state.names
   pub stands : Stands s.state.graph s.state.names s.state.unknowns.items kinds eqs
   pub values : ℕ → Tree
   pub general : (e : Naming) → Fits e s.state.names → IsMostGeneralOf e kinds eqs values
   pub sound : (e : Naming) → Fits e s.state.names → (g : ℕ → Tree) → IsOwn s g → IsSolutionOf e kinds eqs g
   pub complete : (e : Naming) → Fits e s.state.names → (g : ℕ → Tree) → IsSolutionOf e kinds eqs g → (h : ℕ → Tree) × IsOwn s h × ((x k : ℕ) → slice_get kinds x ≡ Some k → h x ≡ g x)
 
--- no values for the unknowns solve the equations
-abbrev pub IsUnsolvable : Solver → List ℕ → List (Ty × Ty) → Type 0
-IsUnsolvable s kinds eqs = HasNone s.state.names kinds eqs
+-- no values for the unknowns solve the equations, under any naming that fits, and one fits
+pub record IsUnsolvable (s : Solver) (kinds : List ℕ) (eqs : List (Ty × Ty)) : Type 0 where
+  pub named : HasNaming s.state.names
+  pub none : HasNone s.state.names kinds eqs
 
 -- both types are without binders, and their unknowns are of the solver
 abbrev pub ArePlainIn : Solver → Ty → Ty → Type 0

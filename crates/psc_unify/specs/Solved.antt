@@ -12,7 +12,8 @@ use Rattle.psc_type.specs.declared.kind.Kind.{Kind}
 use Rattle.psc_unify.specs.declared.names.Constant.{Constant}
 use Rattle.psc_unify.specs.declared.names.Constant.TheVariants.{Any}
 use Rattle.psc_unify.specs.declared.tables.Names.{Names}
-use Rattle.psc_unify.specs.Naming.{Naming, Extends}
+use Rattle.psc_unify.specs.Tables.{Extends}
+use Rattle.psc_unify.specs.Naming.{Naming}
 use Rattle.psc_unify.specs.Meaning.{tree, is_plain}
 
 -- the naming gives what the tables give
@@ -23,6 +24,11 @@ pub record Fits (e : Naming) (names : Names) : Type 0 where
   pub label : (i : ℕ) (l : Label) → slice_get names.labels.rows.items i ≡ Some l → e.label l ≡ i
   pub none : e.result None ≡ 1
   pub result : (k r : ℕ) → slice_get names.kinds.results.items k ≡ Some r → e.result (Some k) ≡ r
+
+-- some naming gives what the tables give: no name has two numbers
+pub record HasNaming (names : Names) : Type 0 where
+  pub naming : Naming
+  pub fits : Fits naming names
 
 -- the tables gave numbers to more names, and changed none
 pub record Continues (old new : Names) : Type 0 where

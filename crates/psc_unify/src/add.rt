@@ -2,9 +2,10 @@
 ghost use Rattle.std.specs.Prelude.{◌≡◌, ℕ, ◌<◌, [], ◌∷◌, ◌++◌, length, OnOk, IfOk, IfSome, IsTrue, slice_get, get_or, Some, None};
 ghost use Rattle.psc_graph.specs.General.{IsReady};
 ghost use Rattle.psc_unify.specs.Meaning.{is_plain};
-ghost use Rattle.psc_unify.specs.Naming.{Naming, IsResult};
+ghost use Rattle.psc_unify.specs.Naming.{Naming};
 ghost use Rattle.psc_unify.specs.Reading.{place_of};
 ghost use Rattle.psc_unify.specs.Solved.{Adds, Continues, Means};
+ghost use Rattle.psc_unify.specs.Tables.{IsResult};
 
 use crate::kinds::{ROW, STAR};
 use crate::names::Constant;

@@ -1,6 +1,7 @@
 // Names by number: each name has one number, from 0 in the order in which they come.
 ghost use Rattle.std.specs.Prelude.{◌≡◌, ◌↔◌, IsTrue, OnOk, IfOk, IfSome, slice_get, Some};
-ghost use Rattle.psc_unify.specs.Naming.{Extends};
+ghost use Rattle.psc_unify.specs.Tables.{Extends, AreIndexed};
+ghost use Rattle.std.proofs.Props.{props};
 
 use psc_text::{Ident, Label, NoMemory, Qualified, Text};
 use std::alloc::{AllocError, Global};
@@ -56,6 +57,7 @@ impl Constant {
 pub struct Constants {
     numbers: BTreeMap<Constant, u64>,
     pub rows: Vec<(Constant, u64)>,
+    ghost indexed: { AreIndexed ⟦<Constant as Ord>⟧.cmp (λ row. row.0) numbers rows.items } by { Prim.hlevel props },
 }
 
 impl Constants {
@@ -92,7 +94,8 @@ impl Constants {
             };
         }
         let number = self.rows.len() as u64;
-        self.numbers.insert(constant.clone()?, number)?;
+        let key = constant.clone()?;
+        self.numbers.insert(key, number)?;
         self.rows.push((constant, kind))?;
         Ok((number, kind))
     }
@@ -110,6 +113,7 @@ impl Constants {
 pub struct Rigids {
     numbers: BTreeMap<Ident, u64>,
     pub rows: Vec<(Ident, u64)>,
+    ghost indexed: { AreIndexed ⟦<Ident as Ord>⟧.cmp (λ row. row.0) numbers rows.items } by { Prim.hlevel props },
 }
 
 impl Rigids {
@@ -142,8 +146,10 @@ impl Rigids {
             };
         }
         let number = self.rows.len() as u64;
-        self.numbers.insert(name.clone()?, number)?;
-        self.rows.push((name.clone()?, kind))?;
+        let row = name.clone()?;
+        let key = name.clone()?;
+        self.numbers.insert(key, number)?;
+        self.rows.push((row, kind))?;
         Ok((number, kind))
     }
 
@@ -160,6 +166,7 @@ impl Rigids {
 pub struct Labels {
     numbers: BTreeMap<Label, u64>,
     pub rows: Vec<Label>,
+    ghost indexed: { AreIndexed ⟦<Label as Ord>⟧.cmp (λ row. row) numbers rows.items } by { Prim.hlevel props },
 }
 
 impl Labels {
@@ -193,8 +200,10 @@ impl Labels {
             };
         }
         let number = self.rows.len() as u64;
-        self.numbers.insert(label.clone()?, number)?;
-        self.rows.push(label.clone()?)?;
+        let row = label.clone()?;
+        let key = label.clone()?;
+        self.numbers.insert(key, number)?;
+        self.rows.push(row)?;
         Ok(number)
     }
 

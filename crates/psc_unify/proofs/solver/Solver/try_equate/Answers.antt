@@ -1,7 +1,7 @@
 use Rattle.std.proofs.Common.{sym, ◌∙◌}
 use Rattle.psc_unify.proofs.Small.{none_some}
 use Rattle.psc_unify.proofs.Standing.{none_state}
-use Rattle.psc_unify.proofs.Promise.{solved_by, other_flag}
+use Rattle.psc_unify.proofs.Promise.{solved_by, unsolvable_by, other_flag}
 use Rattle.psc_unify.proofs.solver.Solver.try_equate.Goals as goal
 
 pub returns-in-Solved-clause-solved : goal.returns-in-Solved-clause-solved
@@ -12,7 +12,7 @@ returns-in-Solved-clause-solved c = λ e plain kinds eqs h.
 pub returns-in_ok-clash-in-Clashed-clause-clash : goal.returns-in_ok-clash-in-Clashed-clause-clash
 returns-in_ok-clash-in-Clashed-clause-clash c = λ clash e only plain kinds eqs h.
     let is = c.in-Clashed.is in
-    none_state _ _ kinds _ c.in_ok-clash-in-Clashed.ensures.state (c.in_ok-ended.ensures.clash (cc) plain kinds eqs h.stands)
+    unsolvable_by _ kinds _ (none_state _ _ kinds _ c.in_ok-clash-in-Clashed.ensures.state (c.in_ok-ended.ensures.clash (cc) plain kinds eqs h.stands))
 
 pub returns-in_ok-escape-in-Escaped-clause-clash : goal.returns-in_ok-escape-in-Escaped-clause-clash
 returns-in_ok-escape-in-Escaped-clause-clash c = λ clash e only plain kinds eqs h. absurd (other_flag c.in_ok-escape-in-Escaped.escape clash (cc) c.in_ok-escape-in-Escaped.ensures.clash only)
