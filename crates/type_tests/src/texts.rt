@@ -2,10 +2,10 @@
 //!
 //! A row has a type as words, each before its parts and with `;` between them, and the text that it has.
 
-use crate::{kind_text, type_text};
 use psc_items::{Shared, SharedItems};
 use psc_text::{Ident, Label, NoMemory, Qualified, Text, read_module_name};
 use psc_type::{Constraint, Kind, Ty};
+use psc_type_text::{kind_text, type_text};
 use std::alloc::Global;
 use std::test::Fail;
 

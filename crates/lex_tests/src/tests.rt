@@ -5,7 +5,7 @@ mod labels;
 mod places;
 mod signs;
 
-use crate::{Mark, Opens, Tok, TokKind, lex_layout};
+use psc_lex::{Mark, Opens, Tok, TokKind, lex_layout};
 use psc_text::NoMemory;
 use std::alloc::Global;
 use std::process::Abort;

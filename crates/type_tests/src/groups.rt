@@ -1,7 +1,6 @@
 //! Groups of small tables of mentions.
 
-use crate::declared::are_declared;
-use crate::groups::{BindingGroup, binding_groups};
+use psc_groups::{BindingGroup, are_declared, binding_groups};
 use psc_text::NoMemory;
 use std::alloc::Global;
 use std::test::Fail;

@@ -1,9 +1,9 @@
 //! A few equations; the rows of `unify_rows` have the others.
 
-use crate::Solver;
 use psc_items::SharedItems;
 use psc_text::{Ident, NoMemory, Qualified, Text};
 use psc_type::{Kind, Scope, Ty, row_equal};
+use psc_unify::Solver;
 use std::alloc::Global;
 use std::test::Fail;
 

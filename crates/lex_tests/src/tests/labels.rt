@@ -1,7 +1,7 @@
 //! Keywords, and where they are labels.
 
 use super::{all_signed, kind_name};
-use crate::lex_layout;
+use psc_lex::lex_layout;
 use std::test::Fail;
 
 #[test]

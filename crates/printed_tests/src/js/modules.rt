@@ -1,10 +1,10 @@
 //! Modules from texts: a tree in the notation, and the text that is printed of it.
 
-use crate::tests::notation::{bindings, module_name};
-use crate::tests::texts;
-use crate::{js_text, js_tree};
+use crate::js::notation::{bindings, module_name};
+use crate::js::texts;
 use psc_core_tree::{CoreModule, ReExport};
 use psc_items::SharedItems;
+use psc_js::{js_text, js_tree};
 use psc_text::{Ident, ModuleName, NoMemory, Span, Text};
 use std::alloc::Global;
 use std::process::Abort;

@@ -1,10 +1,10 @@
 //! What is asked of types, on small ones.
 
-use crate::{
-    Constraint, Kind, Replaced, Ty, canonical, has_more_nodes, is_free, row_equal, substitute,
-};
 use psc_items::{Shared, SharedItems};
 use psc_text::{Ident, Label, NoMemory, Qualified, Text};
+use psc_type::{
+    Constraint, Kind, Replaced, Ty, canonical, has_more_nodes, is_free, row_equal, substitute,
+};
 use std::alloc::Global;
 use std::test::Fail;
 

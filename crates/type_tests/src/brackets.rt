@@ -1,7 +1,7 @@
 //! Chains and their trees.
 
-use crate::chain::{Operator, Turn, bracket};
 use psc_ast::Side;
+use psc_brackets::{Operator, Turn, bracket};
 use std::test::Fail;
 
 fn operator(word: &str) -> Operator {

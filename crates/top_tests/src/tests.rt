@@ -1,8 +1,8 @@
 //! Whole runs over files, a shelf and a sink in memory: the status, the whole text and what is stored.
 
-use crate::compile_alone;
 use psc_outside::{MemFiles, MemShelf, MemSink, Status};
 use psc_text::{NoMemory, Text};
+use psc_top::compile_alone;
 use std::alloc::Global;
 use std::process::Abort;
 use std::test::Fail;

@@ -1,11 +1,11 @@
 //! The text of each form, whole, against texts that were written by hand.
 
-use crate::corefn_text;
-use crate::tests::trees::{HERE, Trees};
+use crate::corefn::trees::{HERE, Trees};
 use psc_core_tree::{
     Ann, BinderField, BinderLiteral, CoreAlternative, CoreBind, CoreBinder, CoreExpr, CoreGuarded,
     CoreOutcome, Literal, Meta,
 };
+use psc_corefn::corefn_text;
 use psc_items::SharedItems;
 use psc_text::{Ident, NoMemory};
 use sqlite_items::Boxed;

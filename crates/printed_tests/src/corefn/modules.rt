@@ -1,8 +1,8 @@
 //! The text of a module, whole, against texts that were written by hand.
 
-use crate::corefn_text;
-use crate::tests::trees::{HERE, Lists, Trees};
+use crate::corefn::trees::{HERE, Lists, Trees};
 use psc_core_tree::{Ann, CoreBind, CoreBinding, CoreExpr, CoreModule, Literal, ReExport};
+use psc_corefn::corefn_text;
 use psc_items::SharedItems;
 use psc_text::{Ident, ModuleName, NoMemory, Span, Text};
 use std::test::Fail;
