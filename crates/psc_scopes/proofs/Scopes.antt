@@ -112,7 +112,7 @@ extends_push xs x = λ i y e. before_push xs x i y e
 
 -- lists that gather what another one has
 
-nat_side : (k n : ℕ) → k < n + 1 → (k < n) ⊎ (k ≡ n)
+pub nat_side : (k n : ℕ) → k < n + 1 → (k < n) ⊎ (k ≡ n)
 nat_side k n lt = grind (arith, lt)
 
 below_push : (xs : List ℕ) (x k : ℕ) → k < length (xs ++ x ∷ []) → k < length xs + 1
@@ -124,10 +124,10 @@ at_old xs x k lt = get_or_from_slice_get (xs ++ x ∷ []) k (get_or xs k 0) 0 (b
 at_last : (xs : List ℕ) (x : ℕ) → get_or (xs ++ x ∷ []) (length xs) 0 ≡ x
 at_last xs x = get_or_from_slice_get (xs ++ x ∷ []) (length xs) x 0 (pushed xs x)
 
-holds_before : (xs : List ℕ) (x r : ℕ) → Holds xs r → Holds (xs ++ x ∷ []) r
+pub holds_before : (xs : List ℕ) (x r : ℕ) → Holds xs r → Holds (xs ++ x ∷ []) r
 holds_before xs x r h = (h.0, slice_get_within (xs ++ x ∷ []) h.0 (get_or xs h.0 0) (before_push xs x h.0 (get_or xs h.0 0) (slice_get-get_or xs h.0 0 h.1)), at_old xs x h.0 h.1 ∙ h.2)
 
-holds_last : (xs : List ℕ) (x : ℕ) → Holds (xs ++ x ∷ []) x
+pub holds_last : (xs : List ℕ) (x : ℕ) → Holds (xs ++ x ∷ []) x
 holds_last xs x = (length xs, slice_get_within (xs ++ x ∷ []) (length xs) x (pushed xs x), at_last xs x)
 
 -- a list rises, and nothing of it is above what another one has from a place on

@@ -10,7 +10,7 @@ use Rattle.psc_graph.proofs.Writes.{after_push, before_push, pushed}
 use Rattle.psc_unify.specs.Tables.{Extends, AreIndexed}
 use Rattle.psc_unify.proofs.Small.{none_some}
 
-true_or_false : (b : Bool) → (b ≡ true) ⊎ (b ≡ false)
+pub true_or_false : (b : Bool) → (b ≡ true) ⊎ (b ≡ false)
 true_or_false true = inl refl
 true_or_false false = inr refl
 
