@@ -332,7 +332,7 @@ impl Solver {
     pub fn equate(&mut self, alloc: Global, a: &Ty, b: &Ty) -> Result<Result<(), Clash>, NoMemory>
         ensures solved { result ≡ Ok (Ok tt) → ArePlainIn self.old a.now b.now → (kinds : List ℕ) (eqs : List (Ty × Ty)) → IsSolved self.old kinds eqs → IsSolved self.new kinds ((a.now, b.now) ∷ eqs) }
         ensures clash { (clash : Clash) → result ≡ Ok (Err clash) → clash.scopes_only ≡ false → ArePlainIn self.old a.now b.now → (kinds : List ℕ) (eqs : List (Ty × Ty)) → IsSolved self.old kinds eqs → IsUnsolvable self.new kinds ((a.now, b.now) ∷ eqs) }
-        ensures opened { result ≡ Ok (Ok tt) → self.old.clash ≡ None → HaveRigidsOf self.old self.new → HaveAllRigids self.new }
+        ensures opened { result ≡ Ok (Ok tt) → HaveRigidsOf self.old self.new → HaveAllRigids self.new }
         ensures plain { (clash : Clash) → result ≡ Ok (Err clash) → self.old.clash ≡ None → ArePlainIn self.old a.now b.now → HaveRigidsOf self.old self.new → clash.scopes_only ≡ false }
         ensures stays { (clash : Clash) → self.old.clash ≡ Some clash → (self.new.clash ≡ Some clash) × IfOk result (λ r. r ≡ Err clash) }
         ensures kept { (clash : Clash) → result ≡ Ok (Err clash) → self.new.clash ≡ Some clash }

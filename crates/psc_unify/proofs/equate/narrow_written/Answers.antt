@@ -1,4 +1,4 @@
-use Rattle.std.proofs.Common.{Err, ℕ, List, ap, sym, subst}
+use Rattle.std.proofs.Common.{Err, List, ap, sym, subst}
 use Rattle.psc_graph.specs.declared.node.Node.{Node}
 use Rattle.psc_scopes.specs.declared.table.ScopeTable.{ScopeTable}
 use Rattle.psc_scopes.specs.Scope.{AreOpen, HasBeyond}

@@ -22,6 +22,6 @@ returns-clause-opened c = λ n wide.
     c.in_ok-scope.ensures.opened n wide
     (c.in_ok-common.ensures.rises (subst (λ (l : List ℕ). Rises l) (sym c.as_slice.ensures.value) (wide.rise left one c.in-Some-Some.ensures.list)))
     (c.in_ok-common.ensures.both n
-      (subst (λ (l : List ℕ). Rises l) (sym c.as_slice-2.ensures.value) (wide.rise right two c.in-Some-Some.ensures'.list))
-      (subst (λ (l : List ℕ). HoldsBelow l n) (sym c.as_slice.ensures.value) (wide.all left one c.in-Some-Some.ensures.list))
-      (subst (λ (l : List ℕ). HoldsBelow l n) (sym c.as_slice-2.ensures.value) (wide.all right two c.in-Some-Some.ensures'.list)))
+    (subst (λ (l : List ℕ). Rises l) (sym c.as_slice-2.ensures.value) (wide.rise right two c.in-Some-Some.ensures'.list))
+    (subst (λ (l : List ℕ). HoldsBelow l n) (sym c.as_slice.ensures.value) (wide.all left one c.in-Some-Some.ensures.list))
+    (subst (λ (l : List ℕ). HoldsBelow l n) (sym c.as_slice-2.ensures.value) (wide.all right two c.in-Some-Some.ensures'.list)))
