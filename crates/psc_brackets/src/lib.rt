@@ -7,7 +7,5 @@
 #![tactic(auto)]
 
 mod chain;
-#[cfg(test)]
-mod tests;
 
 pub use chain::{Clash, Operator, Turn, bracket};

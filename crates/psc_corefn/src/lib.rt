@@ -10,7 +10,5 @@ mod binder;
 mod expr;
 mod literal;
 mod module;
-#[cfg(test)]
-mod tests;
 
 pub use module::corefn_text;

@@ -8,8 +8,6 @@
 mod declared;
 mod groups;
 mod order;
-#[cfg(test)]
-mod tests;
 mod walk;
 
 pub use declared::are_declared;

@@ -8,8 +8,6 @@ mod append;
 mod expr;
 mod module;
 mod place;
-#[cfg(test)]
-mod tests;
 
 pub use module::js_text;
 pub use psc_js_tree::{

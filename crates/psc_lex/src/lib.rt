@@ -15,8 +15,6 @@ mod machine;
 mod openers;
 mod raw;
 mod sign;
-#[cfg(test)]
-mod tests;
 mod token;
 mod words;
 

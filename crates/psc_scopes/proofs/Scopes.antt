@@ -1,14 +1,17 @@
 -- Rigid variables of scopes.
-use Rattle.std.proofs.Common.{◌≡◌, ℕ, ◌+◌, ◌-◌, ◌<◌, ◌≤◌, Bool, true, false, List, [], ◌∷◌, ◌++◌, length, get_or, slice_get, Some, None, Result, Ok, Err, ap, sym, ◌∙◌, subst, ◌⊎◌, inl, inr, arith}
+use Rattle.std.proofs.Common.{◌≡◌, ℕ, ◌+◌, ◌-◌, ◌<◌, ◌≤◌, Bool, true, false, List, [], ◌∷◌, ◌++◌, length, length-append, get_or, slice_get, Some, None, Result, Ok, Err, ap, sym, ◌∙◌, subst, ◌⊎◌, inl, inr, arith}
 use Rattle.std.proofs.lemmas.List.Sorted.{searched}
 use Rattle.std.specs.List.Sorted.{IsBinarySearchResult}
 use Rattle.std.specs.Ordering.{nat_cmp}
-use Rattle.std.specs.Result.{is_ok}
+use Rattle.std.specs.Result.{is_ok, IsErrAnd}
 use Rattle.std.specs.declared.vec.Vec.{Vec}
 use Rattle.std.specs.declared.alloc.Global.{Global}
 use Rattle.std.proofs.lemmas.Option.{slice_get_within, slice_get-get_or, get_or_from_slice_get}
-use Rattle.psc_graph.proofs.Writes.{before_push, after_push}
-use Rattle.psc_scopes.specs.Scope.{Holds, Rises, AllRise, Lies, IsWithin, Extends}
+use Rattle.psc_graph.proofs.Writes.{before_push, after_push, pushed}
+use Rattle.psc_graph.specs.declared.node.Node.{Node}
+use Rattle.psc_graph.specs.declared.node.Node.TheVariants.{Atom}
+use Rattle.psc_graph.specs.declared.node.Leaf.TheVariants.{Rigid}
+use Rattle.psc_scopes.specs.Scope.{Holds, HoldsBelow, Rises, AllRise, AreOpen, IsGiven, HasBeyond, Lies, IsWithin, Extends}
 
 -- what a search does not find is not in a list that rises
 pub not_found : (xs : List ℕ) (x : ℕ) (r : Result ℕ ℕ) (b : Bool) → b ≡ is_ok r → b ≡ false → IsBinarySearchResult (λ y. nat_cmp y x) xs r → Rises xs → Holds xs x → ⊥
@@ -106,3 +109,117 @@ within_new old new scope left common one more other at there all = within_lists 
 
 pub extends_push : (xs : List (Vec ℕ Global)) (x : Vec ℕ Global) → Extends xs (xs ++ x ∷ [])
 extends_push xs x = λ i y e. before_push xs x i y e
+
+-- lists that gather what another one has
+
+pub nat_side : (k n : ℕ) → k < n + 1 → (k < n) ⊎ (k ≡ n)
+nat_side k n lt = grind (arith, lt)
+
+below_push : (xs : List ℕ) (x k : ℕ) → k < length (xs ++ x ∷ []) → k < length xs + 1
+below_push xs x k lt = rw (← length-append xs (x ∷ [])) lt
+
+at_old : (xs : List ℕ) (x k : ℕ) → k < length xs → get_or (xs ++ x ∷ []) k 0 ≡ get_or xs k 0
+at_old xs x k lt = get_or_from_slice_get (xs ++ x ∷ []) k (get_or xs k 0) 0 (before_push xs x k (get_or xs k 0) (slice_get-get_or xs k 0 lt))
+
+at_last : (xs : List ℕ) (x : ℕ) → get_or (xs ++ x ∷ []) (length xs) 0 ≡ x
+at_last xs x = get_or_from_slice_get (xs ++ x ∷ []) (length xs) x 0 (pushed xs x)
+
+pub holds_before : (xs : List ℕ) (x r : ℕ) → Holds xs r → Holds (xs ++ x ∷ []) r
+holds_before xs x r h = (h.0, slice_get_within (xs ++ x ∷ []) h.0 (get_or xs h.0 0) (before_push xs x h.0 (get_or xs h.0 0) (slice_get-get_or xs h.0 0 h.1)), at_old xs x h.0 h.1 ∙ h.2)
+
+pub holds_last : (xs : List ℕ) (x : ℕ) → Holds (xs ++ x ∷ []) x
+holds_last xs x = (length xs, slice_get_within (xs ++ x ∷ []) (length xs) x (pushed xs x), at_last xs x)
+
+-- a list rises, and nothing of it is above what another one has from a place on
+pub record Gathers (common left : List ℕ) (i : ℕ) : Type 0 where
+  pub rise : Rises common
+  pub below : (j k : ℕ) → j < length common → i ≤ k → k < length left → get_or common j 0 ≤ get_or left k 0
+
+pub gathers_none : (common left : List ℕ) → common ≡ [] → Gathers common left 0
+gathers_none common left is = subst (λ l. Gathers l left 0) (sym is) (record { rise = λ i j le lt. absurd (omega arith); below = λ j k lt le inside. absurd (omega arith) })
+
+pub gathers_past : (common left : List ℕ) (i : ℕ) → Gathers common left i → Gathers common left (i + 1)
+gathers_past common left i g = record { rise = g.rise; below = λ j k lt le inside. g.below j k lt (omega arith) inside }
+
+module _ (old left : List ℕ) (i r : ℕ) (at : Some r ≡ slice_get left i) (up : Rises left) (g : Gathers old left i) where
+  here : get_or left i 0 ≡ r
+  here = get_or_from_slice_get left i r 0 (sym at)
+
+  inside : i < length left
+  inside = slice_get_within left i r (sym at)
+
+  more_rise : Rises (old ++ r ∷ [])
+  more_rise a b le lt = elim (nat_side b (length old) (below_push old r b lt)) [
+    | inl p ↦ (let x = at_old old r a (omega arith) in let y = at_old old r b p in rw (x, y) (g.rise a b le p))
+    | inr p ↦ (let y : get_or (old ++ r ∷ []) b 0 ≡ r = ap (λ k. get_or (old ++ r ∷ []) k 0) p ∙ at_last old r in
+        elim (nat_side a (length old) (omega arith)) [
+          | inl q ↦ (let x = at_old old r a q in rw (x, y, ← here) (g.below a i q (omega arith) inside))
+          | inr q ↦ (let x : get_or (old ++ r ∷ []) a 0 ≡ r = ap (λ k. get_or (old ++ r ∷ []) k 0) q ∙ at_last old r in omega arith)
+        ])
+  ]
+
+  more_below : (j k : ℕ) → j < length (old ++ r ∷ []) → i + 1 ≤ k → k < length left → get_or (old ++ r ∷ []) j 0 ≤ get_or left k 0
+  more_below j k lt le within = elim (nat_side j (length old) (below_push old r j lt)) [
+    | inl p ↦ (let x = at_old old r j p in rw x (g.below j k p (omega arith) within))
+    | inr p ↦ (let x : get_or (old ++ r ∷ []) j 0 ≡ r = ap (λ k. get_or (old ++ r ∷ []) k 0) p ∙ at_last old r in let y : get_or left i 0 ≤ get_or left k 0 = up i k (omega arith) within in let z = here in omega arith)
+  ]
+
+  pub gathers_more : (new : List ℕ) → new ≡ old ++ r ∷ [] → Gathers new left (i + 1)
+  gathers_more new is = subst (λ l. Gathers l left (i + 1)) (sym is) (record { rise = more_rise; below = more_below })
+
+-- of the first i of a list, those below n are in another one
+abbrev pub FirstKept : List ℕ → List ℕ → ℕ → ℕ → Type 0
+FirstKept left common i n = (k : ℕ) → k < i → k < length left → get_or left k 0 < n → Holds common (get_or left k 0)
+
+pub kept_none : (left common : List ℕ) (n : ℕ) → FirstKept left common 0 n
+kept_none left common n k lt inside low = absurd (omega arith)
+
+pub kept_more : (left old new : List ℕ) (i r n : ℕ) → Some r ≡ slice_get left i → new ≡ old ++ r ∷ [] → FirstKept left old i n → FirstKept left new (i + 1) n
+kept_more left old new i r n at is h k lt inside low = elim (nat_side k i lt) [
+  | inl p ↦ subst (λ l. Holds l (get_or left k 0)) (sym is) (holds_before old r (get_or left k 0) (h k p inside low))
+  | inr p ↦ subst (λ l. Holds l (get_or left k 0)) (sym is) (subst (Holds (old ++ r ∷ [])) (sym (ap (λ j. get_or left j 0) p ∙ get_or_from_slice_get left i r 0 (sym at))) (holds_last old r))
+]
+
+pub kept_past : (left right common : List ℕ) (i r n : ℕ) → Some r ≡ slice_get left i → (Holds right r → ⊥) → HoldsBelow right n → FirstKept left common i n → FirstKept left common (i + 1) n
+kept_past left right common i r n at absent below h k lt inside low = elim (nat_side k i lt) [
+  | inl p ↦ h k p inside low
+  | inr p ↦ (let is : get_or left k 0 ≡ r = ap (λ j. get_or left j 0) p ∙ get_or_from_slice_get left i r 0 (sym at) in absurd (absent (below r (rw (← is) low))))
+]
+
+pub kept_all : (left common : List ℕ) (i n : ℕ) → length left ≤ i → FirstKept left common i n → HoldsBelow left n → HoldsBelow common n
+kept_all left common i n past h below r low =
+    let at = below r low in
+    let lt : at.0 < length left = at.1 in
+    subst (Holds common) at.2 (h at.0 (omega arith) lt (rw at.2 low))
+
+-- a scope more
+pub open_push : (lists : List (Vec ℕ Global)) (list : Vec ℕ Global) (n : ℕ) → AreOpen lists n → Rises list.items → HoldsBelow list.items n → AreOpen (lists ++ list ∷ []) n
+open_push lists list n wide up all = record {
+  rise = λ i l e. elim (after_push lists list i l e) [
+    | inl p ↦ subst (λ (v : Vec ℕ Global). Rises v.items) (sym p.1) up
+    | inr p ↦ wide.rise i l p
+  ];
+  all = λ i l e. elim (after_push lists list i l e) [
+    | inl p ↦ subst (λ (v : Vec ℕ Global). HoldsBelow v.items n) (sym p.1) all
+    | inr p ↦ wide.all i l p
+  ];
+}
+
+-- what is outside of an open scope is not below n
+pub beyond : (nodes : List Node) (lists : List (Vec ℕ Global)) (scope n place : ℕ) (node : Node) → slice_get nodes place ≡ Some node → IsGiven lists scope → AreOpen lists n
+    → ((r k : ℕ) × (node ≡ Atom (Rigid r k)) × (AllRise lists → Lies lists scope r → ⊥)) → HasBeyond nodes n
+beyond nodes lists scope n place node at given wide clash = record {
+  place = place;
+  rigid = clash.0;
+  kind = clash.1;
+  at = at ∙ ap (λ (x : Node). Some x) clash.2;
+  beyond = λ low. clash.3 wide.rise (inr (given.0, given.1, wide.all (scope - 1) given.0 given.1 clash.0 low));
+}
+
+pub given_on : (old new : List (Vec ℕ Global)) (s t : ℕ) → Extends old new → t ≡ s → IsGiven old s → IsGiven new t
+given_on old new s t more same given = subst (IsGiven new) (sym same) (given.0, more (s - 1) given.0 given.1)
+
+-- a refusal that was handed on
+pub passed : {T E : Type 0} (r : Result T E) (s t : E) → IsErrAnd r (λ y. y ≡ s) → r ≡ Err t → s ≡ t
+passed (Ok x) s t is e = cc
+passed (Err y) s t is e = cc

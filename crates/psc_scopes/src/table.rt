@@ -1,6 +1,6 @@
 // Scopes by number. Number 0 is the scope that no call has given yet: every rigid variable.
 ghost use Rattle.std.specs.Prelude.{◌≡◌, ℕ, ◌-◌, ◌<◌, ◌∷◌, ◌++◌, [], true, false, length, OnOk, IfOk, IfSome, Err, None, Some, slice_get};
-ghost use Rattle.psc_scopes.specs.Scope.{Holds, Rises, AllRise, Lies, IsWithin, Extends};
+ghost use Rattle.psc_scopes.specs.Scope.{Holds, HoldsBelow, Rises, AllRise, AreOpen, IsGiven, Lies, IsWithin, Extends};
 
 use psc_graph::Stop;
 use std::alloc::Global;
@@ -39,6 +39,8 @@ fn keep(list: &mut Vec<u64>, rigid: u64) -> Result<(), Stop>
 fn keep_common(alloc: Global, left: &[u64], right: &[u64]) -> Result<Vec<u64>, Stop>
     ensures left { IfOk result (λ list. (r : ℕ) → Holds list.items r → Holds left.now r) }
     ensures right { IfOk result (λ list. (r : ℕ) → Holds list.items r → Holds right.now r) }
+    ensures rises { IfOk result (λ list. Rises left.now → Rises list.items) }
+    ensures both { IfOk result (λ list. (n : ℕ) → Rises right.now → HoldsBelow left.now n → HoldsBelow right.now n → HoldsBelow list.items n) }
     ensures clash { result ≡ Err Stop.Clash → ⊥ }
 {
     let mut common = Vec::new(alloc);
@@ -70,7 +72,9 @@ fn are_in(list: &[u64], other: &[u64]) -> bool
 
 impl ScopeTable {
     /// The table with the scope 0 alone.
-    pub fn new(alloc: Global) -> ScopeTable {
+    pub fn new(alloc: Global) -> ScopeTable
+        ensures { result.lists.items ≡ [] }
+    {
         ScopeTable {
             lists: Vec::new(alloc),
         }
@@ -88,16 +92,35 @@ impl ScopeTable {
         self.lists.get((scope - 1) as usize)
     }
 
-    /// Adds a scope with these rigid variables, ascending, and gives its number.
-    pub fn add(&mut self, list: Vec<u64>) -> Result<u64, Stop>
-        ensures number { IfOk result (λ scope. (scope ≡ 0 → ⊥) × (slice_get self.new.lists.items (scope - 1) ≡ Some list)) }
-        ensures kept { Extends self.old.lists.items self.new.lists.items }
+    /// Whether a call gave the scope. The scope 0 is given by none.
+    pub fn is_given(&self, scope: u64) -> bool
+        ensures { result ≡ true → IsGiven self.now.lists.items scope }
+    {
+        match self.list(scope) {
+            Some(_) => true,
+            None => false,
+        }
+    }
+
+    fn push_list(&mut self, list: Vec<u64>) -> Result<(), Stop>
+        ensures pushed { OnOk result (self.new.lists.items ≡ self.old.lists.items ++ list ∷ []) }
         ensures clash { result ≡ Err Stop.Clash → ⊥ }
     {
         match self.lists.push(list) {
-            Ok(()) => Ok(self.lists.len() as u64),
+            Ok(()) => Ok(()),
             Err(_) => Err(Stop::Memory),
         }
+    }
+
+    /// Adds a scope with these rigid variables, ascending, and gives its number.
+    pub fn add(&mut self, list: Vec<u64>) -> Result<u64, Stop>
+        ensures number { IfOk result (λ scope. (scope ≡ 0 → ⊥) × (slice_get self.new.lists.items (scope - 1) ≡ Some list)) }
+        ensures kept { OnOk result (Extends self.old.lists.items self.new.lists.items) }
+        ensures opened { OnOk result ((n : ℕ) → AreOpen self.old.lists.items n → Rises list.items → HoldsBelow list.items n → AreOpen self.new.lists.items n) }
+        ensures clash { result ≡ Err Stop.Clash → ⊥ }
+    {
+        self.push_list(list)?;
+        Ok(self.lists.len() as u64)
     }
 
     /// Whether the scope has these rigid variables and no others.
@@ -145,7 +168,8 @@ impl ScopeTable {
     pub fn meet(&mut self, alloc: Global, left: u64, right: u64) -> Result<u64, Stop>
         ensures left { IfOk result (λ scope. IsWithin self.new.lists.items scope left) }
         ensures right { IfOk result (λ scope. IsWithin self.new.lists.items scope right) }
-        ensures kept { Extends self.old.lists.items self.new.lists.items }
+        ensures kept { OnOk result (Extends self.old.lists.items self.new.lists.items) }
+        ensures opened { OnOk result ((n : ℕ) → AreOpen self.old.lists.items n → AreOpen self.new.lists.items n) }
         ensures clash { result ≡ Err Stop.Clash → ⊥ }
     {
         if self.is_within(left, right) {

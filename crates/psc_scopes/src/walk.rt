@@ -1,6 +1,6 @@
 // The walk from a bound unknown over its value.
 ghost use Rattle.std.specs.Prelude.{◌≡◌, ℕ, ◌<◌, ◌-◌, List, [], ◌∷◌, ◌++◌, length, get_or, slice_get, slice_set, OnOk, OnErr, MatchOption, None, Err};
-ghost use Rattle.psc_scopes.specs.Scope.{AllRise, Lies, IsWithin, Extends};
+ghost use Rattle.psc_scopes.specs.Scope.{AllRise, AreOpen, HasBeyond, IsGiven, Lies, IsWithin, Extends};
 ghost use Rattle.psc_scopes.specs.Restoring.{Restores, undone};
 
 use crate::table::ScopeTable;
@@ -149,7 +149,8 @@ fn narrow_free(
     at: usize,
 ) -> Result<(), Stop>
     ensures within { OnOk result (at < length bounds.old.scopes.items → IsWithin table.new.lists.items (get_or bounds.new.scopes.items at 0) scope) }
-    ensures kept { Extends table.old.lists.items table.new.lists.items }
+    ensures kept { OnOk result (Extends table.old.lists.items table.new.lists.items) }
+    ensures opened { OnOk result ((n : ℕ) → AreOpen table.old.lists.items n → AreOpen table.new.lists.items n) }
     ensures restores { (xs : List ℕ) → Restores bounds.old xs → Restores bounds.new xs }
     ensures clash { result ≡ Err Stop.Clash → ⊥ }
 {
@@ -174,6 +175,9 @@ fn narrow_end(
     ensures inside { OnOk result ((r k : ℕ) → node ≡ Node.Atom (Leaf.Rigid r k) → Lies table.old.lists.items walk.old.scope r) }
     ensures narrowed { OnOk result ((k : ℕ) → node ≡ Node.Free k → end < length bounds.old.scopes.items → IsWithin table.new.lists.items (get_or bounds.new.scopes.items end 0) walk.old.scope) }
     ensures clash { result ≡ Err Stop.Clash → (r k : ℕ) × (node ≡ Node.Atom (Leaf.Rigid r k)) × (AllRise table.old.lists.items → Lies table.old.lists.items walk.old.scope r → ⊥) }
+    ensures kept { OnOk result (Extends table.old.lists.items table.new.lists.items) }
+    ensures opened { OnOk result ((n : ℕ) → AreOpen table.old.lists.items n → AreOpen table.new.lists.items n) }
+    ensures scope { walk.new.scope ≡ walk.old.scope }
     ensures restores { (xs : List ℕ) → Restores bounds.old xs → Restores bounds.new xs }
 {
     match node {
@@ -213,7 +217,11 @@ fn narrow_at(
     walk: &mut Walk,
     at: usize,
 ) -> Result<(), Stop>
-    ensures { (xs : List ℕ) → Restores bounds.old xs → Restores bounds.new xs }
+    ensures restores { (xs : List ℕ) → Restores bounds.old xs → Restores bounds.new xs }
+    ensures kept { OnOk result (Extends table.old.lists.items table.new.lists.items) }
+    ensures opened { OnOk result ((n : ℕ) → AreOpen table.old.lists.items n → AreOpen table.new.lists.items n) }
+    ensures scope { walk.new.scope ≡ walk.old.scope }
+    ensures clash { result ≡ Err Stop.Clash → (n : ℕ) → IsGiven table.old.lists.items walk.old.scope → AreOpen table.old.lists.items n → HasBeyond nodes.now n }
 {
     let own = bounds.at(at);
     if own != 0 && table.is_within(own, walk.scope) {
@@ -229,7 +237,8 @@ fn narrow_at(
 }
 
 /// Narrows the unknowns in the value of a bound unknown to its scope. Clash where a rigid variable that
-/// is not in the scope stands in the value.
+/// is not in the scope stands in the value. For a scope that no call gave, which never comes, it answers want
+/// of memory.
 pub fn narrow(
     alloc: Global,
     nodes: &[Node],
@@ -237,11 +246,16 @@ pub fn narrow(
     bounds: &mut Bounds,
     unknown: usize,
 ) -> Result<(), Stop>
-    ensures { (xs : List ℕ) → Restores bounds.old xs → Restores bounds.new xs }
+    ensures restores { (xs : List ℕ) → Restores bounds.old xs → Restores bounds.new xs }
+    ensures opened { OnOk result ((n : ℕ) → AreOpen table.old.lists.items n → AreOpen table.new.lists.items n) }
+    ensures clash { result ≡ Err Stop.Clash → (n : ℕ) → AreOpen table.old.lists.items n → HasBeyond nodes.now n }
 {
     let scope = bounds.at(unknown);
     if scope == 0 {
         return Ok(());
+    }
+    if !table.is_given(scope) {
+        return Err(Stop::Memory);
     }
     let (end, _) = find(nodes, unknown)?;
     if end == unknown {

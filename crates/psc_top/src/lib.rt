@@ -11,6 +11,3 @@ mod words;
 
 pub use compile::compile_alone;
 pub use source::{accepted_is_spelled, spelled_is_accepted};
-
-#[cfg(test)]
-mod tests;

@@ -11,8 +11,6 @@ mod nodes;
 mod rows;
 mod scheme;
 mod synonyms;
-#[cfg(test)]
-mod tests;
 mod ty;
 mod vars;
 

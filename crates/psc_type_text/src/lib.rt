@@ -9,8 +9,6 @@ mod append;
 mod kinds;
 mod names;
 mod shape;
-#[cfg(test)]
-mod tests;
 mod types;
 
 pub use kinds::kind_text;

@@ -26,6 +26,13 @@ both true true h = (refl, refl)
 both true false h = absurd cc
 both false y h = absurd cc
 
+-- the parts of a type without binders are without binders
+pub plain_app : (n : ℕ) (t f a : Ty) → t ≡ ty.App f a → IsTrue (is_plain n t) → IsTrue (is_plain n f) × IsTrue (is_plain n a)
+plain_app n t f a is plain = both (is_plain n f) (is_plain n a) (sym (plain-App n f a) ∙ ap (is_plain n) (sym is) ∙ plain)
+
+pub plain_row : (n : ℕ) (t f a : Ty) (x : Label) → t ≡ ty.RowCons x f a → IsTrue (is_plain n t) → IsTrue (is_plain n f) × IsTrue (is_plain n a)
+plain_row n t f a x is plain = both (is_plain n f) (is_plain n a) (sym (plain-RowCons n x f a) ∙ ap (is_plain n) (sym is) ∙ plain)
+
 module _ (names : Names) (nodes : List Node) (unknowns : List ℕ) (t : Ty) (p : ℕ) where
   pub var_case : (x : Ident) → t ≡ ty.Var x → ((i k : ℕ) × (slice_get names.rigids.rows.items i ≡ Some (x, k)) × (slice_get nodes p ≡ Some (Atom (leaf.Rigid i k)))) → Means names nodes unknowns t p
   var_case x is h = subst (λ s. Means names nodes unknowns s p) (sym is) (means_rigid names nodes unknowns x p h.0 h.1 h.2 h.3)
@@ -65,7 +72,7 @@ module _ (g0 g1 g2 g3 : Graph) (n1 n2 : Names) (unknowns : List ℕ) (t f f' a a
       → ((k : ℕ) × IsResult n2.kinds.results.items (get_or g2.kinds.items l None) k × (slice_get g3.nodes.items p ≡ Some (Join (Apply k) l r)))
       → Means n2 g3.nodes.items unknowns t p
   app_case is plain h =
-      let parts = both (is_plain (length unknowns) f) (is_plain (length unknowns) a) (sym (plain-App (length unknowns) f a) ∙ ap (is_plain (length unknowns)) (sym is) ∙ plain) in
+      let parts = plain_app (length unknowns) t f a is plain in
       let more = adds2.grows.longer in
       let inside : l < length g2.nodes.items = omega arith in
       subst (λ s. Means n2 g3.nodes.items unknowns s p) (sym is)
@@ -75,7 +82,7 @@ module _ (g0 g1 g2 g3 : Graph) (n1 n2 : Names) (unknowns : List ℕ) (t f f' a a
       → ((i : ℕ) × (slice_get n3.labels.rows.items i ≡ Some x) × (slice_get g3.nodes.items p ≡ Some (Field i l r)))
       → Means n3 g3.nodes.items unknowns t p
   row_case n3 x c3 is plain h =
-      let parts = both (is_plain (length unknowns) f) (is_plain (length unknowns) a) (sym (plain-RowCons (length unknowns) x f a) ∙ ap (is_plain (length unknowns)) (sym is) ∙ plain) in
+      let parts = plain_row (length unknowns) t f a x is plain in
       subst (λ s. Means n3 g3.nodes.items unknowns s p) (sym is)
       (means_row n3 g3.nodes.items unknowns x f a l r p h.0 h.1 h.2
       (means_named n2 n3 g3.nodes.items unknowns f l c3 (left parts.0)) (means_named n2 n3 g3.nodes.items unknowns a r c3 (right parts.1)))

@@ -10,6 +10,7 @@ pub mod Standing
 pub mod Starting
 pub mod Asking
 pub mod Equating
+pub mod Scoping
 pub mod Solving
 pub mod Reading
 pub mod Promise

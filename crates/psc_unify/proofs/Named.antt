@@ -1,5 +1,5 @@
 -- A naming that fits: each name has the number that its table's map has.
-use Rattle.std.proofs.Common.{◌≡◌, ℕ, ◌<◌, suc, zero, true, false, cond, List, [], ◌∷◌, Option, None, Some, slice_get, ap, refl, ◌∙◌, arith}
+use Rattle.std.proofs.Common.{◌≡◌, ℕ, ◌<◌, suc, zero, cond, List, [], ◌∷◌, Option, None, Some, slice_get, ap, refl, ◌∙◌, arith}
 use Rattle.std.specs.BTreeMap.{get}
 use Rattle.psc_text.specs.declared.names.Ident.{Ident}
 use Rattle.psc_text.specs.declared.names.Label.{Label}

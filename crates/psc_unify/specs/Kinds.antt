@@ -1,5 +1,5 @@
 -- Kinds as the solver tells them apart: all kinds of rows count as one.
-use Rattle.std.specs.Prelude.{◌≡◌, ℕ, ◌<◌, Bool, true, false, ◌&&◌, nat_eq, List, Option, None, Some, slice_get}
+use Rattle.std.specs.Prelude.{◌≡◌, ℕ, ◌<◌, Bool, true, false, ◌&&◌, nat_eq, List, Some, slice_get}
 use Rattle.psc_type.specs.declared.kind.Kind.{Kind}
 use Rattle.psc_type.specs.declared.kind.Kind.TheOpen.{Kind-F}
 use Rattle.psc_type.specs.declared.kind.Kind.TheFolds.{fold-Kind}

@@ -1,5 +1,5 @@
 -- What the calls of a solver promise of the equations so far.
-use Rattle.std.specs.Prelude.{◌≡◌, ℕ, List, None, Some, slice_get}
+use Rattle.std.specs.Prelude.{◌≡◌, ℕ, List, None, Some, slice_get, length}
 use Rattle.psc_type.specs.declared.ty.Ty.{Ty}
 use Rattle.psc_graph.specs.Tree.{Tree}
 use Rattle.psc_unify.specs.declared.solver.Solver.{Solver}
@@ -7,6 +7,7 @@ use Rattle.psc_unify.specs.Naming.{Naming}
 use Rattle.psc_graph.specs.General.{IsSolution}
 use Rattle.psc_unify.specs.Meaning.{tree}
 use Rattle.psc_unify.specs.Reading.{valued}
+use Rattle.psc_scopes.specs.Scope.{AreOpen}
 use Rattle.psc_unify.specs.Solved.{Stands, Fits, HasNaming, IsSolutionOf, IsMostGeneralOf, HasNone, ArePlain}
 
 -- values for all unknowns, those that the solver made itself too, that solve its graph
@@ -33,6 +34,14 @@ pub record IsSolved (s : Solver) (kinds : List ℕ) (eqs : List (Ty × Ty)) : Ty
 pub record IsUnsolvable (s : Solver) (kinds : List ℕ) (eqs : List (Ty × Ty)) : Type 0 where
   pub named : HasNaming s.state.names
   pub none : HasNone s.state.names kinds eqs
+
+-- each scope that the one solver was given has each rigid variable that the other knows
+abbrev pub HaveRigidsOf : Solver → Solver → Type 0
+HaveRigidsOf s t = AreOpen s.state.scopes.lists.items (length t.state.names.rigids.rows.items)
+
+-- each scope that was given has each rigid variable that the solver knows
+abbrev pub HaveAllRigids : Solver → Type 0
+HaveAllRigids s = HaveRigidsOf s s
 
 -- both types are without binders, and their unknowns are of the solver
 abbrev pub ArePlainIn : Solver → Ty → Ty → Type 0

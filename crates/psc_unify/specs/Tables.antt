@@ -1,11 +1,21 @@
 -- Tables that give names their numbers.
-use Rattle.std.specs.Prelude.{◌≡◌, ℕ, List, Option, slice_get, Some, None}
+use Rattle.std.specs.Prelude.{◌≡◌, ℕ, ◌<◌, List, Option, slice_get, Some, None}
 use Rattle.std.specs.declared.cmp.Ordering.{Ordering}
 use Rattle.std.specs.BTreeMap.{BTreeMap, get}
+use Rattle.psc_text.specs.declared.names.Ident.{Ident}
+use Rattle.psc_scopes.specs.Scope.{Holds}
 
 -- what stands at a place stays there
 abbrev pub Extends : {X : Type 0} → List X → List X → Type 0
 Extends {X} xs ys = (i : ℕ) (x : X) → slice_get xs i ≡ Some x → slice_get ys i ≡ Some x
+
+-- the name of each row is one of the names
+abbrev pub AreAmong : List (Ident × ℕ) → List Ident → Type 0
+AreAmong rows names = (i k : ℕ) (x : Ident) → slice_get rows i ≡ Some (x, k) → (j : ℕ) × (slice_get names j ≡ Some x)
+
+-- the list has the number of each of the first n names
+abbrev pub HasNumbers : List (Ident × ℕ) → List Ident → ℕ → List ℕ → Type 0
+HasNumbers rows names n list = (j : ℕ) (x : Ident) → j < n → slice_get names j ≡ Some x → (r k : ℕ) × Holds list r × (slice_get rows r ≡ Some (x, k))
 
 -- the map has each row's number at the row's name
 abbrev pub AreIndexed : {K X : Type 0} → (K → K → Ordering) → (X → K) → BTreeMap K ℕ → List X → Type 0

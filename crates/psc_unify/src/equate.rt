@@ -1,11 +1,12 @@
 // One equation: its nodes are made equal, and then the scopes of what was bound are looked at.
-ghost use Rattle.std.specs.Prelude.{◌≡◌, ℕ, List, ◌∷◌, OnOk, Ok, true, false};
+ghost use Rattle.std.specs.Prelude.{◌≡◌, ℕ, ◌<◌, List, ◌∷◌, OnOk, Ok, Err, Some, true, false, slice_get};
 ghost use Rattle.psc_type.specs.declared.ty.Ty.{Ty};
+ghost use Rattle.psc_scopes.specs.Scope.{AreOpen, HasBeyond};
 ghost use Rattle.psc_unify.specs.Solved.{Stands, HasNone, ArePlain, Continues};
 
 use crate::add::add_type;
 use crate::tables::Names;
-use psc_graph::{Node, Stop};
+use psc_graph::{Leaf, Node, Stop, node_at};
 use psc_rows::{Graph, make_equal};
 use psc_scopes::{Bounds, ScopeTable, narrow};
 use psc_text::NoMemory;
@@ -40,12 +41,15 @@ pub fn relate(
 
 /// Narrows the unknowns in the values of the unknowns that were bound. Clash where a rigid variable
 /// stands outside of its scope.
-pub fn narrow_bound(
+fn narrow_written(
     alloc: Global,
     graph: &Graph,
     scopes: &mut ScopeTable,
     bounds: &mut Bounds,
-) -> Result<(), Stop> {
+) -> Result<(), Stop>
+    ensures opened { OnOk result ((n : ℕ) → AreOpen scopes.old.lists.items n → AreOpen scopes.new.lists.items n) }
+    ensures clash { result ≡ Err Stop.Clash → (n : ℕ) → AreOpen scopes.old.lists.items n → HasBeyond graph.now.nodes.items n }
+{
     bounds.cover(graph.nodes.len())?;
     for index in 0..graph.writes.len() {
         let Some(write) = graph.writes.get(index).copied() else {
@@ -56,4 +60,58 @@ pub fn narrow_bound(
         }
     }
     Ok(())
+}
+
+/// Whether the node is no rigid variable, or one of the first `count`.
+fn is_numbered(node: Node, count: u64) -> bool
+    ensures { result ≡ true → (r k : ℕ) → node ≡ Node.Atom (Leaf.Rigid r k) → r < count }
+{
+    match node {
+        Node::Atom(leaf) => match leaf {
+            Leaf::Rigid(rigid, _) => rigid < count,
+            Leaf::Constant(_, _) | Leaf::Bound(_) | Leaf::NoArgument => true,
+        },
+        Node::Free(_) | Node::Link(_) | Node::Join(_, _, _) | Node::Field(_, _, _) => true,
+    }
+}
+
+/// Whether each rigid variable among the nodes is one of the first `count`.
+fn are_numbered(nodes: &[Node], count: u64) -> bool
+    ensures { result ≡ true → (place r k : ℕ) → slice_get nodes.now place ≡ Some (Node.Atom (Leaf.Rigid r k)) → r < count }
+{
+    for index in 0..nodes.len() {
+        let Some(node) = node_at(nodes, index) else {
+            return false;
+        };
+        if !is_numbered(node, count) {
+            return false;
+        }
+    }
+    true
+}
+
+/// Narrows the unknowns in the values of the unknowns that were bound. Clash where a rigid variable
+/// stands outside of its scope. `count` is how many rigid variables have numbers: a node that is none of
+/// them, which never comes, is answered as want of memory.
+pub fn narrow_bound(
+    alloc: Global,
+    graph: &Graph,
+    count: u64,
+    scopes: &mut ScopeTable,
+    bounds: &mut Bounds,
+) -> Result<(), Stop>
+    ensures opened { OnOk result ((n : ℕ) → AreOpen scopes.old.lists.items n → AreOpen scopes.new.lists.items n) }
+    ensures clash { result ≡ Err Stop.Clash → AreOpen scopes.old.lists.items count → ⊥ }
+{
+    match narrow_written(alloc, graph, scopes, bounds) {
+        Ok(()) => Ok(()),
+        Err(stop) => match stop {
+            Stop::Clash => if are_numbered(graph.nodes.as_slice(), count) {
+                Err(Stop::Clash)
+            } else {
+                Err(Stop::Memory)
+            },
+            Stop::Memory => Err(Stop::Memory),
+        },
+    }
 }

@@ -14,7 +14,5 @@ mod read;
 mod solver;
 mod state;
 mod tables;
-#[cfg(test)]
-mod tests;
 
 pub use solver::{Clash, Solver, TypeKind};

@@ -1,6 +1,7 @@
 // An equation whose binders are compared with rigid variables that any unknown may take: where it has a
 // solution, only scopes forbid one.
-ghost use Rattle.std.specs.Prelude.{OnOk};
+ghost use Rattle.std.specs.Prelude.{◌≡◌, ℕ, OnOk, IsTrue, true};
+ghost use Rattle.psc_unify.specs.Meaning.{is_plain};
 ghost use Rattle.psc_unify.specs.Solved.{Continues};
 
 use crate::tables::Names;
@@ -9,6 +10,33 @@ use psc_text::{Ident, Label, NoMemory, Text};
 use psc_type::{Constraint, Kind, Ty};
 use std::alloc::Global;
 use std::collections::BTreeMap;
+
+/// Whether a `forall` stands in a type.
+#[cycle(binder)]
+pub fn has_binder(ty: &Ty) -> bool
+    ensures { result ≡ true → (n : ℕ) → IsTrue (is_plain n ty.now) → ⊥ }
+{
+    match ty {
+        Ty::App(function, argument) => has_binder(function.get()) || has_binder(argument.get()),
+        Ty::Forall(_, _, _) => true,
+        Ty::Given(constraint, body) => {
+            have_binder(constraint.args.as_slice()) || has_binder(body.get())
+        }
+        Ty::RowCons(_, head, rest) => has_binder(head.get()) || has_binder(rest.get()),
+        Ty::Var(_) | Ty::Unknown(_) | Ty::Con(_) | Ty::RowNil | Ty::Symbol(_) | Ty::Any(_) => false,
+    }
+}
+
+/// Whether a `forall` stands in one of the types.
+#[cycle(binder)]
+fn have_binder(types: &[Ty]) -> bool {
+    for ty in types {
+        if has_binder(ty) {
+            return true;
+        }
+    }
+    false
+}
 
 /// The variables of binders, set free. A binder's variable gets the name of the binder's place, so that
 /// those of two types are one where the binders stand at one place.
@@ -28,11 +56,6 @@ impl Opened {
             binders: Vec::new(alloc),
             made: Vec::new(alloc),
         }
-    }
-
-    /// Whether there was no binder.
-    pub fn is_empty(&self) -> bool {
-        self.made.is_empty()
     }
 
     /// The place of a part of what stands at a place. The whole stands at 0.

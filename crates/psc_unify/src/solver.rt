@@ -1,13 +1,16 @@
 // The solver's calls. After want of memory it is spent; after a clash it answers that clash.
 
-ghost use Rattle.std.specs.Prelude.{◌≡◌, ℕ, ◌<◌, ◌≤◌, List, [], ◌∷◌, ◌++◌, length, Option, None, Some, OnOk, OnErr, IfOk, Ok, Err, true, false};
+ghost use Rattle.std.specs.Prelude.{◌≡◌, ℕ, ◌<◌, ◌≤◌, List, [], ◌∷◌, ◌++◌, length, Option, None, Some, OnOk, OnErr, IfOk, IsTrue, Ok, Err, true, false};
 ghost use Rattle.psc_type.specs.declared.ty.Ty.{Ty};
 ghost use Rattle.psc_unify.specs.Solved.{Stands, HasNone, ArePlain, Continues};
-ghost use Rattle.psc_unify.specs.Promise.{IsSolved, IsUnsolvable, ArePlainIn, IsValue};
+ghost use Rattle.psc_scopes.specs.Scope.{AreOpen};
+ghost use Rattle.psc_unify.specs.Meaning.{is_plain};
+ghost use Rattle.psc_unify.specs.Tables.{AreAmong};
+ghost use Rattle.psc_unify.specs.Promise.{IsSolved, IsUnsolvable, ArePlainIn, IsValue, HaveRigidsOf, HaveAllRigids};
 
 use crate::equate::{narrow_bound, relate};
 use crate::names::Constant;
-use crate::opened::Opened;
+use crate::opened::{Opened, has_binder};
 use crate::read::Reader;
 use crate::state::{State, scope_number};
 use crate::tables::Names;
@@ -84,18 +87,22 @@ fn take_back(state: &mut State, count: usize) -> Result<(), NoMemory>
     Ok(())
 }
 
-/// Both types with their binders opened. None where there are no binders.
-fn open_both(alloc: Global, names: &mut Names, a: &Ty, b: &Ty) -> Result<Option<(Ty, Ty)>, NoMemory>
+/// Whether a `forall` stands in one of both types.
+fn any_binder(a: &Ty, b: &Ty) -> bool
+    ensures { result ≡ true → (n : ℕ) → IsTrue (is_plain n a.now) → IsTrue (is_plain n b.now) → ⊥ }
+{
+    has_binder(a) || has_binder(b)
+}
+
+/// Both types with their binders opened.
+fn open_both(alloc: Global, names: &mut Names, a: &Ty, b: &Ty) -> Result<(Ty, Ty), NoMemory>
     ensures { OnOk result (Continues names.old names.new) }
 {
     let mut opened = Opened::new(alloc);
     let left = opened.whole(a)?;
     let right = opened.whole(b)?;
-    if opened.is_empty() {
-        return Ok(None);
-    }
     opened.name_all(names)?;
-    Ok(Some((left, right)))
+    Ok((left, right))
 }
 
 /// Whether both types can be made equal. What was solved is taken back.
@@ -123,11 +130,12 @@ fn end_clashed(alloc: Global, state: &mut State, a: &Ty, b: &Ty) -> Result<Ended
     ensures names { OnOk result (Continues state.old.names state.new.names) }
     ensures before { OnOk result (length state.new.graph.nodes.items ≤ length state.old.graph.nodes.items) }
     ensures unsolved { result ≡ Ok Ended.Solved → ⊥ }
+    ensures plain { result ≡ Ok Ended.Escaped → (n : ℕ) → IsTrue (is_plain n a.now) → IsTrue (is_plain n b.now) → ⊥ }
 {
-    let sides = open_both(alloc, &mut state.names, a, b)?;
-    let Some((left, right)) = sides else {
+    if !any_binder(a, b) {
         return Ok(Ended::Clashed);
-    };
+    }
+    let (left, right) = open_both(alloc, &mut state.names, a, b)?;
     let solved = is_solved(alloc, state, &left, &right)?;
     if solved {
         return Ok(Ended::Escaped);
@@ -135,10 +143,22 @@ fn end_clashed(alloc: Global, state: &mut State, a: &Ty, b: &Ty) -> Result<Ended
     Ok(Ended::Clashed)
 }
 
+/// Ends an equation that was solved, but in which a rigid variable left its scope.
+fn end_escaped(state: &mut State, count: usize) -> Result<Ended, NoMemory>
+    ensures names { state.new.names ≡ state.old.names }
+    ensures before { OnOk result (length state.new.graph.nodes.items ≤ count) }
+    ensures escaped { IfOk result (λ ended. ended ≡ Ended.Escaped) }
+{
+    take_back(state, count)?;
+    Ok(Ended::Escaped)
+}
+
 /// Adds an equation. After a clash the state is as it was before.
 fn add_equation(alloc: Global, state: &mut State, a: &Ty, b: &Ty) -> Result<Ended, NoMemory>
     ensures solved { result ≡ Ok Ended.Solved → ArePlain state.old.unknowns.items a.now b.now → (kinds : List ℕ) (eqs : List (Ty × Ty)) → Stands state.old.graph state.old.names state.old.unknowns.items kinds eqs → Stands state.new.graph state.new.names state.new.unknowns.items kinds ((a.now, b.now) ∷ eqs) }
     ensures clash { result ≡ Ok Ended.Clashed → ArePlain state.old.unknowns.items a.now b.now → (kinds : List ℕ) (eqs : List (Ty × Ty)) → Stands state.old.graph state.old.names state.old.unknowns.items kinds eqs → HasNone state.new.names kinds ((a.now, b.now) ∷ eqs) }
+    ensures opened { result ≡ Ok Ended.Solved → (n : ℕ) → AreOpen state.old.scopes.lists.items n → AreOpen state.new.scopes.lists.items n }
+    ensures plain { result ≡ Ok Ended.Escaped → ArePlain state.old.unknowns.items a.now b.now → AreOpen state.old.scopes.lists.items (length state.new.names.rigids.rows.items) → ⊥ }
     ensures clash_before { result ≡ Ok Ended.Clashed → length state.new.graph.nodes.items ≤ length state.old.graph.nodes.items }
     ensures escape_before { result ≡ Ok Ended.Escaped → length state.new.graph.nodes.items ≤ length state.old.graph.nodes.items }
 {
@@ -158,12 +178,16 @@ fn add_equation(alloc: Global, state: &mut State, a: &Ty, b: &Ty) -> Result<Ende
         let ended = end_clashed(alloc, state, a, b)?;
         return Ok(ended);
     }
-    match narrow_bound(alloc, &state.graph, &mut state.scopes, &mut state.bounds) {
+    let known = state.names.rigids.rows.len() as u64;
+    match narrow_bound(
+        alloc,
+        &state.graph,
+        known,
+        &mut state.scopes,
+        &mut state.bounds,
+    ) {
         Ok(()) => Ok(Ended::Solved),
-        Err(Stop::Clash) => {
-            take_back(state, count)?;
-            Ok(Ended::Escaped)
-        }
+        Err(Stop::Clash) => end_escaped(state, count),
         Err(Stop::Memory) => Err(NoMemory),
     }
 }
@@ -191,7 +215,8 @@ impl Solver {
     /// A solver without equations, over constructors of these kinds. A constructor that is not among
     /// them has the kind `Type`.
     pub fn start(alloc: Global, kinds: &[TypeKind]) -> Result<Solver, NoMemory>
-        ensures { IfOk result (λ solver. IsSolved solver [] []) }
+        ensures solved { IfOk result (λ solver. IsSolved solver [] []) }
+        ensures opened { IfOk result (λ solver. HaveAllRigids solver) }
     {
         let mut state = State::new(alloc)?;
         add_constructors(&mut state.names, kinds)?;
@@ -208,6 +233,7 @@ impl Solver {
     /// it. After want of memory here, in `fresh` or in `equate`, every call answers it.
     pub fn rigid(&mut self, alloc: Global, name: &Ident, kind: Kind) -> Result<Ident, NoMemory>
         ensures solved { OnOk result ((kinds : List ℕ) (eqs : List (Ty × Ty)) → IsSolved self.old kinds eqs → IsSolved self.new kinds eqs) }
+        ensures scopes { self.new.state.scopes ≡ self.old.state.scopes }
         ensures stays { self.new.clash ≡ self.old.clash }
         ensures spent { self.old.is_spent ≡ true → (self.new.is_spent ≡ true) × OnOk result ⊥ }
         ensures spends { OnErr result (self.new.is_spent ≡ true) }
@@ -231,6 +257,7 @@ impl Solver {
     pub fn fresh(&mut self, alloc: Global, kind: Kind, scope: &Scope) -> Result<u64, NoMemory>
         ensures number { IfOk result (λ number. (kinds : List ℕ) (eqs : List (Ty × Ty)) → IsSolved self.old kinds eqs → number ≡ length kinds) }
         ensures solved { OnOk result ((kinds : List ℕ) (eqs : List (Ty × Ty)) → IsSolved self.old kinds eqs → (k : ℕ) × IsSolved self.new (kinds ++ k ∷ []) eqs) }
+        ensures opened { OnOk result (HaveRigidsOf self.old self.new → AreAmong self.new.state.names.rigids.rows.items scope.now.rigid → HaveAllRigids self.new) }
         ensures stays { self.new.clash ≡ self.old.clash }
         ensures spent { self.old.is_spent ≡ true → (self.new.is_spent ≡ true) × OnOk result ⊥ }
         ensures spends { OnErr result (self.new.is_spent ≡ true) }
@@ -275,6 +302,8 @@ impl Solver {
     fn try_equate(&mut self, alloc: Global, a: &Ty, b: &Ty) -> Result<Result<(), Clash>, NoMemory>
         ensures solved { result ≡ Ok (Ok tt) → ArePlainIn self.old a.now b.now → (kinds : List ℕ) (eqs : List (Ty × Ty)) → IsSolved self.old kinds eqs → IsSolved self.new kinds ((a.now, b.now) ∷ eqs) }
         ensures clash { (clash : Clash) → result ≡ Ok (Err clash) → clash.scopes_only ≡ false → ArePlainIn self.old a.now b.now → (kinds : List ℕ) (eqs : List (Ty × Ty)) → IsSolved self.old kinds eqs → IsUnsolvable self.new kinds ((a.now, b.now) ∷ eqs) }
+        ensures opened { result ≡ Ok (Ok tt) → (n : ℕ) → AreOpen self.old.state.scopes.lists.items n → AreOpen self.new.state.scopes.lists.items n }
+        ensures plain { (clash : Clash) → result ≡ Ok (Err clash) → self.old.clash ≡ None → ArePlainIn self.old a.now b.now → HaveRigidsOf self.old self.new → clash.scopes_only ≡ false }
         ensures stays { (clash : Clash) → self.old.clash ≡ Some clash → (self.new.clash ≡ Some clash) × IfOk result (λ r. r ≡ Err clash) }
         ensures kept { (clash : Clash) → result ≡ Ok (Err clash) → self.new.clash ≡ Some clash }
         ensures before { (clash : Clash) → result ≡ Ok (Err clash) → length self.new.state.graph.nodes.items ≤ length self.old.state.graph.nodes.items }
@@ -303,6 +332,8 @@ impl Solver {
     pub fn equate(&mut self, alloc: Global, a: &Ty, b: &Ty) -> Result<Result<(), Clash>, NoMemory>
         ensures solved { result ≡ Ok (Ok tt) → ArePlainIn self.old a.now b.now → (kinds : List ℕ) (eqs : List (Ty × Ty)) → IsSolved self.old kinds eqs → IsSolved self.new kinds ((a.now, b.now) ∷ eqs) }
         ensures clash { (clash : Clash) → result ≡ Ok (Err clash) → clash.scopes_only ≡ false → ArePlainIn self.old a.now b.now → (kinds : List ℕ) (eqs : List (Ty × Ty)) → IsSolved self.old kinds eqs → IsUnsolvable self.new kinds ((a.now, b.now) ∷ eqs) }
+        ensures opened { result ≡ Ok (Ok tt) → HaveRigidsOf self.old self.new → HaveAllRigids self.new }
+        ensures plain { (clash : Clash) → result ≡ Ok (Err clash) → self.old.clash ≡ None → ArePlainIn self.old a.now b.now → HaveRigidsOf self.old self.new → clash.scopes_only ≡ false }
         ensures stays { (clash : Clash) → self.old.clash ≡ Some clash → (self.new.clash ≡ Some clash) × IfOk result (λ r. r ≡ Err clash) }
         ensures kept { (clash : Clash) → result ≡ Ok (Err clash) → self.new.clash ≡ Some clash }
         ensures spent { self.old.is_spent ≡ true → (self.new.is_spent ≡ true) × OnOk result ⊥ }

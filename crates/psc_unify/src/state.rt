@@ -1,5 +1,7 @@
 // What a solver has: the graph, the scopes of its unknowns, and the names of what stands in it.
 ghost use Rattle.std.specs.Prelude.{◌≡◌, ℕ, ◌<◌, List, [], ◌∷◌, ◌++◌, length, OnOk, IfOk, IfSome, true, slice_get, Some};
+ghost use Rattle.psc_scopes.specs.Scope.{Holds, Rises, AreOpen};
+ghost use Rattle.psc_unify.specs.Tables.{AreAmong, HasNumbers};
 ghost use Rattle.psc_type.specs.declared.ty.Ty.{Ty};
 ghost use Rattle.psc_unify.specs.Solved.{Stands, Continues};
 ghost use Rattle.psc_unify.specs.Reading.{place_of};
@@ -55,7 +57,8 @@ fn made_number(unknowns: &[usize], place: usize) -> Option<u64>
 impl State {
     /// The state without unknowns.
     pub fn new(alloc: Global) -> Result<State, NoMemory>
-        ensures { IfOk result (λ state. Stands state.graph state.names state.unknowns.items [] []) }
+        ensures stands { IfOk result (λ state. Stands state.graph state.names state.unknowns.items [] []) }
+        ensures scopes { IfOk result (λ state. state.scopes.lists.items ≡ []) }
     {
         let names = Names::new(alloc)?;
         let graph = Graph::new(alloc);
@@ -82,6 +85,7 @@ impl State {
     pub fn push_unknown(&mut self, kind: u64, scope: u64) -> Result<u64, NoMemory>
         ensures number { IfOk result (λ number. number ≡ length self.old.unknowns.items) }
         ensures names { self.new.names ≡ self.old.names }
+        ensures scopes { self.new.scopes ≡ self.old.scopes }
         ensures stands { OnOk result ((kinds : List ℕ) (eqs : List (Ty × Ty)) → Stands self.old.graph self.old.names self.old.unknowns.items kinds eqs → Stands self.new.graph self.new.names self.new.unknowns.items (kinds ++ kind ∷ []) eqs) }
     {
         let place = push(&mut self.graph, Node::Free(kind))?;
@@ -111,6 +115,36 @@ impl State {
     }
 }
 
+fn name_at(names: &[Ident], at: usize) -> Option<&Ident>
+    ensures { IfSome result (λ name. slice_get names.now at ≡ Some name.now) }
+{
+    names.get(at)
+}
+
+/// The numbers of rigid variables, in the order of their names.
+fn numbers_of(alloc: Global, names: &mut Names, rigid: &[Ident]) -> Result<Vec<u64>, NoMemory>
+    ensures names { OnOk result (Continues names.old names.new) }
+    ensures numbers { IfOk result (λ list. HasNumbers names.new.rigids.rows.items rigid.now (length rigid.now) list.items) }
+{
+    let mut list = Vec::new(alloc);
+    for index in 0..rigid.len() {
+        let Some(name) = name_at(rigid, index) else {
+            return Err(NoMemory);
+        };
+        let (number, _) = names.rigid(name, STAR)?;
+        list.push(number)?;
+    }
+    Ok(list)
+}
+
+fn sort(list: &mut Vec<u64>) -> Result<(), NoMemory>
+    ensures rises { OnOk result (Rises list.new.items) }
+    ensures holds { OnOk result ((r : ℕ) → Holds list.old.items r → Holds list.new.items r) }
+{
+    list.sort()?;
+    Ok(())
+}
+
 /// The number of a scope: the one that was used last where it has the same rigid variables.
 pub fn scope_number(
     alloc: Global,
@@ -119,14 +153,11 @@ pub fn scope_number(
     rigid: &[Ident],
     last: u64,
 ) -> Result<u64, NoMemory>
-    ensures { OnOk result (Continues names.old names.new) }
+    ensures names { OnOk result (Continues names.old names.new) }
+    ensures opened { OnOk result (AreOpen scopes.old.lists.items (length names.new.rigids.rows.items) → AreAmong names.new.rigids.rows.items rigid.now → AreOpen scopes.new.lists.items (length names.new.rigids.rows.items)) }
 {
-    let mut list = Vec::new(alloc);
-    for name in rigid {
-        let (number, _) = names.rigid(name, STAR)?;
-        list.push(number)?;
-    }
-    list.sort()?;
+    let mut list = numbers_of(alloc, names, rigid)?;
+    sort(&mut list)?;
     if scopes.has_exactly(last, list.as_slice()) {
         return Ok(last);
     }

@@ -1,10 +1,18 @@
-use Rattle.std.proofs.Common.{ℕ, ap, subst, ◌∙◌}
+use Rattle.std.proofs.Common.{ℕ, ap, subst, sym, ◌∙◌, ◌+◌}
 use Rattle.std.specs.declared.vec.Vec.{Vec}
 use Rattle.std.specs.declared.alloc.Global.{Global}
 use Rattle.psc_scopes.specs.Scope.{Holds}
-use Rattle.psc_scopes.proofs.Scopes.{common_more, common_found}
+use Rattle.psc_scopes.proofs.Scopes.{none_common, common_more, common_found, Gathers, gathers_none, gathers_past, gathers_more, FirstKept, kept_none, kept_more, kept_past, kept_all}
 use Rattle.psc_scopes.proofs.table.keep_common.Goals as goal
 use Rattle.psc_scopes.proofs.table.keep_common.Goals.{then-is_in+in_ok-keep, else-is_in}
+
+pub loop-index-init : goal.loop-index-init
+loop-index-init c = record {
+  left = λ x h. none_common _ _ c.new-common.ensures.items x h;
+  right = λ x h. none_common _ _ c.new-common.ensures.items x h;
+  rises = λ up. gathers_none _ _ c.new-common.ensures.items;
+  both = λ n up below. kept_none _ _ n;
+}
 
 pub loop-index-preserved : goal.loop-index-preserved
 loop-index-preserved c = elim c.if-is_in.branch [
@@ -12,9 +20,21 @@ loop-index-preserved c = elim c.if-is_in.branch [
       record {
         left = λ x h. common_more _ _ _ _ _ c.in-Some.ensures is c.loop-index.invariant.left x h;
         right = λ x h. common_found _ _ _ _ (c.is_in.ensures.yes w.if-is_in.true) is c.loop-index.invariant.right x h;
+        rises = λ up. gathers_more _ _ _ _ c.in-Some.ensures up (c.loop-index.invariant.rises up) _ is;
+        both = λ n up below. kept_more _ _ _ _ _ n c.in-Some.ensures is (c.loop-index.invariant.both n up below);
       })
   | else-is_in w ↦ record {
     left = λ x h. c.loop-index.invariant.left x (subst (λ (v : Vec ℕ Global). Holds v.items x) w.common-is h);
     right = λ x h. c.loop-index.invariant.right x (subst (λ (v : Vec ℕ Global). Holds v.items x) w.common-is h);
+    rises = λ up. subst (λ (v : Vec ℕ Global). Gathers v.items c.args.left.now (c.loop-index.index + 1)) (sym w.common-is) (gathers_past _ _ _ (c.loop-index.invariant.rises up));
+    both = λ n up below.
+        subst (λ (v : Vec ℕ Global). FirstKept c.args.left.now v.items (c.loop-index.index + 1) n) (sym w.common-is)
+        (kept_past _ _ _ _ _ n c.in-Some.ensures (λ h. c.is_in.ensures.no w.if-is_in.false up h) below (c.loop-index.invariant.both n up below));
   }
 ]
+
+pub returns-clause-rises : goal.returns-clause-rises
+returns-clause-rises c = λ up. (c.loop-index.invariant.rises up).rise
+
+pub returns-clause-both : goal.returns-clause-both
+returns-clause-both c = λ n up one two. kept_all _ _ c.loop-index.index n c.loop-index-test.false (c.loop-index.invariant.both n up two) one

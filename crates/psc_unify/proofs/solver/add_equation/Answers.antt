@@ -1,4 +1,4 @@
-use Rattle.std.proofs.Common.{refl}
+use Rattle.std.proofs.Common.{length, refl}
 use Rattle.psc_unify.proofs.Standing.{at_slice, none_slice, none_named}
 use Rattle.psc_unify.proofs.solver.add_equation.Goals as goal
 
@@ -12,3 +12,6 @@ returns-then-not-solved-clause-clash c = λ e plain kinds eqs st.
     let no = c.if-not-solved.true in
     none_named _ _ kinds _ c.in_ok-ended.ensures.names
     (none_slice _ _ _ _ _ _ _ _ _ kinds eqs c.as_slice.ensures.value refl refl c.in_ok-take_back.ensures.names (c.in_ok-solved.ensures.clash (cc)) plain st)
+
+pub returns-then-not-solved-clause-plain : goal.returns-then-not-solved-clause-plain
+returns-then-not-solved-clause-plain c = λ e plain wide. c.in_ok-ended.ensures.plain e (length c.args.state.now.unknowns.items) plain.left plain.right

@@ -1,5 +1,5 @@
-use Rattle.std.proofs.Common.{ℕ, List, subst}
-use Rattle.psc_scopes.specs.Scope.{Holds}
+use Rattle.std.proofs.Common.{ℕ, ◌-◌, List, sym, subst}
+use Rattle.psc_scopes.specs.Scope.{Holds, HoldsBelow, Rises}
 use Rattle.psc_scopes.proofs.Scopes.{within_new}
 use Rattle.psc_scopes.proofs.table.ScopeTable.meet.Goals as goal
 
@@ -12,3 +12,16 @@ pub returns-clause-right : goal.returns-clause-right
 returns-clause-right c =
     within_new _ _ _ _ c.in_ok-common.common c.in-Some-Some.two.now c.in_ok-scope.ensures.kept c.in_ok-scope.ensures.number.0 c.in_ok-scope.ensures.number.1 c.in-Some-Some.ensures'.list
     (λ r h. subst (λ (l : List ℕ). Holds l r) c.as_slice-2.ensures.value (c.in_ok-common.ensures.right r h))
+
+pub returns-clause-opened : goal.returns-clause-opened
+returns-clause-opened c = λ n wide.
+    let one = c.in-Some-Some.one.now in
+    let two = c.in-Some-Some.two.now in
+    let left = c.args.left - 1 in
+    let right = c.args.right - 1 in
+    c.in_ok-scope.ensures.opened n wide
+    (c.in_ok-common.ensures.rises (subst (λ (l : List ℕ). Rises l) (sym c.as_slice.ensures.value) (wide.rise left one c.in-Some-Some.ensures.list)))
+    (c.in_ok-common.ensures.both n
+    (subst (λ (l : List ℕ). Rises l) (sym c.as_slice-2.ensures.value) (wide.rise right two c.in-Some-Some.ensures'.list))
+    (subst (λ (l : List ℕ). HoldsBelow l n) (sym c.as_slice.ensures.value) (wide.all left one c.in-Some-Some.ensures.list))
+    (subst (λ (l : List ℕ). HoldsBelow l n) (sym c.as_slice-2.ensures.value) (wide.all right two c.in-Some-Some.ensures'.list)))

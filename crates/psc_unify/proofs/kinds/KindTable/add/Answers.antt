@@ -1,7 +1,6 @@
 use Rattle.std.proofs.Common.{◌≡◌, rules}
 use Rattle.psc_unify.specs.Kinds.{IsNew}
 use Rattle.psc_unify.proofs.Distinct.{distinct_tried}
-use Rattle.psc_unify.proofs.Numbering.{rows_kept}
 use Rattle.psc_unify.proofs.kinds.KindTable.add.Goals as goal
 
 pub invariant_of-self-2 : goal.invariant_of-self-2

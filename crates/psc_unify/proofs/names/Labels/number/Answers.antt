@@ -1,4 +1,4 @@
-use Rattle.std.proofs.Common.{◌≡◌, ℕ, None, length, ap, refl, sym, ◌∙◌, rules}
+use Rattle.std.proofs.Common.{◌≡◌, None, length, ap, sym, ◌∙◌, rules}
 use Rattle.std.specs.BTreeMap.{get}
 use Rattle.psc_text.specs.declared.names.Label.{Label}
 use Rattle.psc_text.specs.contracts.names.LabelOrd.TheImpl as label_ord

@@ -1,4 +1,4 @@
-use Rattle.std.proofs.Common.{◌≡◌, ℕ, None, length, ap, refl, sym, ◌∙◌, rules}
+use Rattle.std.proofs.Common.{◌≡◌, ℕ, None, length, ap, sym, ◌∙◌, rules}
 use Rattle.std.specs.BTreeMap.{get}
 use Rattle.psc_text.specs.declared.names.Ident.{Ident}
 use Rattle.psc_text.specs.contracts.names.IdentOrd.TheImpl as ident_ord

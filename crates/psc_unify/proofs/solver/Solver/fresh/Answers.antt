@@ -2,6 +2,7 @@ use Rattle.std.proofs.Common.{sym, ◌∙◌, ◌++◌, ◌∷◌, []}
 use Rattle.psc_unify.proofs.Naming.{continues_more}
 use Rattle.psc_unify.proofs.Standing.{stands_named}
 use Rattle.psc_unify.proofs.Promise.{solved_by}
+use Rattle.psc_unify.proofs.Scoping.{open_fresh}
 use Rattle.psc_unify.proofs.solver.Solver.fresh.Goals as goal
 
 pub returns-clause-number : goal.returns-clause-number
@@ -11,5 +12,10 @@ pub returns-clause-solved : goal.returns-clause-solved
 returns-clause-solved c = λ kinds eqs h. (
   c.in_ok-kind.kind,
   solved_by _ (kinds ++ c.in_ok-kind.kind ∷ []) eqs h.running
-      (c.in_ok-number.ensures.stands kinds eqs (stands_named _ _ _ _ kinds eqs (continues_more _ _ _ c.in_ok-kind.ensures c.in_ok-bound.ensures) h.stands)),
+      (c.in_ok-number.ensures.stands kinds eqs (stands_named _ _ _ _ kinds eqs (continues_more _ _ _ c.in_ok-kind.ensures c.in_ok-bound.ensures.names) h.stands)),
 )
+
+pub returns-clause-opened : goal.returns-clause-opened
+returns-clause-opened c = λ wide among.
+    open_fresh c.args.self.now.state.scopes c.scope_number.new.scopes c.push_unknown.new.self.scopes c.scope_number.new.names c.push_unknown.new.self.names _ _
+    c.in_ok-number.ensures.names c.in_ok-number.ensures.scopes c.as_slice.ensures c.in_ok-bound.ensures.opened wide among

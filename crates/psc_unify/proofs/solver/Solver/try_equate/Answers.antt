@@ -19,3 +19,8 @@ returns-in_ok-escape-in-Escaped-clause-clash c = λ clash e only plain kinds eqs
 
 pub returns-in-Some-clause-clash : goal.returns-in-Some-clause-clash
 returns-in-Some-clause-clash c = λ clash e only plain kinds eqs h. absurd (none_some _ (sym h.running ∙ c.in-Some.is))
+
+pub returns-in-Solved-clause-opened : goal.returns-in-Solved-clause-opened
+returns-in-Solved-clause-opened c = λ e n wide.
+    let is = c.in-Solved.is in
+    c.in_ok-ended.ensures.opened (cc) n wide
