@@ -1,2 +1,3 @@
 pub mod Scope
 pub mod Restoring
+pub mod Keeping
