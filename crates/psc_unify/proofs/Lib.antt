@@ -14,3 +14,6 @@ pub mod Scoping
 pub mod Solving
 pub mod Reading
 pub mod Promise
+pub mod Kept
+pub mod Narrowing
+pub mod ScopedSolving

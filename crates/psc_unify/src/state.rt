@@ -59,6 +59,9 @@ impl State {
     pub fn new(alloc: Global) -> Result<State, NoMemory>
         ensures stands { IfOk result (λ state. Stands state.graph state.names state.unknowns.items [] []) }
         ensures scopes { IfOk result (λ state. state.scopes.lists.items ≡ []) }
+        ensures bounds { IfOk result (λ state. state.bounds.scopes.items ≡ []) }
+        ensures nodes { IfOk result (λ state. state.graph.nodes.items ≡ []) }
+        ensures unknowns { IfOk result (λ state. state.unknowns.items ≡ []) }
     {
         let names = Names::new(alloc)?;
         let graph = Graph::new(alloc);

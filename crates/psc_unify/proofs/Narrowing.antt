@@ -1,0 +1,71 @@
+-- The scopes of all that were unknowns are narrowed, one after the other.
+use Rattle.std.proofs.Common.{◌≡◌, ℕ, ◌+◌, ◌<◌, ◌≤◌, Bool, List, length, Some, slice_get, ap, refl, sym, ◌∙◌, subst, inl, inr, arith}
+use Rattle.std.specs.declared.vec.Vec.{Vec}
+use Rattle.std.specs.declared.alloc.Global.{Global}
+use Rattle.psc_graph.specs.Tree.{Tree}
+use Rattle.psc_graph.specs.Model.{Solves}
+use Rattle.psc_graph.specs.declared.node.Node.{Node}
+use Rattle.psc_graph.specs.declared.node.Node.TheVariants.{Free}
+use Rattle.psc_rows.specs.declared.graph.Write.{Write}
+use Rattle.psc_scopes.specs.Scope.{AreOpen}
+use Rattle.psc_scopes.specs.Keeping.{AreScopes, Narrows, AllKeep, IsNarrowed}
+use Rattle.psc_scopes.proofs.Scopes.{nat_side}
+use Rattle.psc_scopes.proofs.Keeping.{narrows_none, narrows_more, narrowed_on}
+use Rattle.psc_unify.specs.Scoped.{AreNarrowed}
+use Rattle.psc_unify.proofs.Small.{some_same}
+
+-- from some scopes to others, the first n writes were looked at
+pub record IsNarrowing (nodes : List Node) (writes : List Write) (old new : List (Vec ℕ Global)) (before after : List ℕ) (n : ℕ) : Type 0 where
+  pub opened : (m : ℕ) → AreOpen old m → AreOpen new m
+  pub long : length after ≡ length before
+  pub narrows : AreScopes old before → Narrows nodes old new before after
+  pub narrowed : AreScopes old before → length nodes ≤ length before → AreNarrowed nodes new after writes n
+  pub keeps : (may : ℕ → ℕ → Bool) (v : ℕ → Tree) → AreScopes old before → Solves v nodes → AllKeep may old before v → AllKeep may new after v
+
+none_first : {B : Type 0} (i : ℕ) → i < 0 → B
+none_first i lt = absurd (omega arith)
+
+pub narrowing_none : (nodes : List Node) (writes : List Write) (lists : List (Vec ℕ Global)) (bounds : List ℕ) → IsNarrowing nodes writes lists lists bounds bounds 0
+narrowing_none nodes writes lists bounds = record {
+  opened = λ m wide. wide;
+  long = refl;
+  narrows = λ are. narrows_none nodes lists bounds are;
+  narrowed = λ are covers i s w lt. none_first i lt;
+  keeps = λ may v are sol all. all;
+}
+
+le_same : (a b c : ℕ) → a ≤ b → c ≡ b → a ≤ c
+le_same a b c le is = omega arith
+
+-- one more was looked at
+module _ (nodes : List Node) (writes : List Write) (old mid new : List (Vec ℕ Global)) (before between after : List ℕ) (n : ℕ) (write : Write)
+    (at : Some write ≡ slice_get writes n)
+    (opened : (m : ℕ) → AreOpen mid m → AreOpen new m)
+    (long : length after ≡ length between)
+    (narrows : AreScopes mid between → Narrows nodes mid new between after)
+    (narrowed : AreScopes mid between → length nodes ≤ length between → (s : ℕ) → write.node ≡ Free s → IsNarrowed nodes new after write.place)
+    (keeps : (may : ℕ → ℕ → Bool) (v : ℕ → Tree) → AreScopes mid between → Solves v nodes → AllKeep may mid between v → AllKeep may new after v)
+    (first : IsNarrowing nodes writes old mid before between n) where
+  all_narrowed : AreScopes old before → length nodes ≤ length before → AreNarrowed nodes new after writes (n + 1)
+  all_narrowed are covers i s w lt here free =
+      let there = (first.narrows are).scopes in
+      elim (nat_side i n lt) [
+        | inl p ↦ narrowed_on nodes mid new between after w.place there (narrows there) (first.narrowed are covers i s w p here free)
+        | inr p ↦ (let is : write ≡ w = some_same write w (at ∙ ap (slice_get writes) (sym p) ∙ here) in
+            subst (λ (x : Write). IsNarrowed nodes new after x.place) is (narrowed there (le_same (length nodes) (length before) (length between) covers first.long) s (ap (λ (x : Write). x.node) is ∙ free)))
+      ]
+
+  pub narrowing_more : IsNarrowing nodes writes old new before after (n + 1)
+  narrowing_more = record {
+    opened = λ m wide. opened m (first.opened m wide);
+    long = long ∙ first.long;
+    narrows = λ are. narrows_more nodes old mid new before between after (first.narrows are) (narrows (first.narrows are).scopes);
+    narrowed = all_narrowed;
+    keeps = λ may v are sol all. keeps may v (first.narrows are).scopes sol (first.keeps may v are sol all);
+  }
+
+pub narrowed_all : (nodes : List Node) (writes : List Write) (lists : List (Vec ℕ Global)) (bounds : List ℕ) (n : ℕ) → length writes ≤ n → AreNarrowed nodes lists bounds writes n → AreNarrowed nodes lists bounds writes (length writes)
+narrowed_all nodes writes lists bounds n past all i s w lt = all i s w (lt_past i (length writes) n lt past)
+  where
+    lt_past : (a b c : ℕ) → a < b → b ≤ c → a < c
+    lt_past a b c h g = omega arith
