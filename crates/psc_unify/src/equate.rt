@@ -1,6 +1,7 @@
 // One equation: its nodes are made equal, and then the scopes of what was bound are looked at.
 ghost use Rattle.std.specs.Prelude.{◌≡◌, ℕ, ◌<◌, List, ◌∷◌, OnOk, Ok, Err, Some, true, false, slice_get};
 ghost use Rattle.psc_type.specs.declared.ty.Ty.{Ty};
+ghost use Rattle.psc_rows.specs.Writes.{Remembers};
 ghost use Rattle.psc_scopes.specs.Scope.{AreOpen, HasBeyond};
 ghost use Rattle.psc_unify.specs.Solved.{Stands, HasNone, ArePlain, Continues};
 
@@ -26,6 +27,7 @@ pub fn relate(
     ensures solved { result ≡ Ok true → ArePlain unknowns.now a.now b.now → (kinds : List ℕ) (eqs : List (Ty × Ty)) → Stands graph.old names.old unknowns.now kinds eqs → Stands graph.new names.new unknowns.now kinds ((a.now, b.now) ∷ eqs) }
     ensures clash { result ≡ Ok false → ArePlain unknowns.now a.now b.now → (kinds : List ℕ) (eqs : List (Ty × Ty)) → Stands graph.old names.old unknowns.now kinds eqs → HasNone names.new kinds ((a.now, b.now) ∷ eqs) }
     ensures names { OnOk result (Continues names.old names.new) }
+    ensures remembers { result ≡ Ok true → Remembers graph.old graph.new }
 {
     let mut binders = Vec::new(alloc);
     let left = add_type(graph, names, unknowns, &mut binders, a)?;

@@ -1,4 +1,5 @@
 use Rattle.std.proofs.Common.{◌∙◌}
+use Rattle.psc_rows.proofs.WriteLemmas.{remembers_more}
 use Rattle.psc_unify.proofs.Naming.{continues_more}
 use Rattle.psc_unify.proofs.Equating.{stands_equal, none_equal}
 use Rattle.psc_unify.proofs.equate.relate.Goals as goal
@@ -22,3 +23,6 @@ returns-in-Ok-clause-names c = continues_more _ _ _ c.in_ok-left.ensures.names c
 
 pub returns-in-Clash-clause-names : goal.returns-in-Clash-clause-names
 returns-in-Clash-clause-names c = continues_more _ _ _ c.in_ok-left.ensures.names c.in_ok-right.ensures.names
+
+pub returns-in-Ok-clause-remembers : goal.returns-in-Ok-clause-remembers
+returns-in-Ok-clause-remembers c = λ e. remembers_more _ _ _ c.in_ok-left.ensures.remembers (remembers_more _ _ _ c.in_ok-right.ensures.remembers c.in-Ok.ensures.remembers)
