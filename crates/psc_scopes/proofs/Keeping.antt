@@ -1,5 +1,5 @@
 -- Values that keep to scopes, and scopes that become narrower.
-use Rattle.std.proofs.Common.{◌≡◌, ℕ, ◌+◌, ◌-◌, ◌<◌, ◌≤◌, Bool, true, List, [], ◌∷◌, ◌++◌, length, length-append, get_or, slice_get, slice_set, Some, zero, suc, ap, refl, sym, ◌∙◌, subst, ◌⊎◌, inl, inr, arith}
+use Rattle.std.proofs.Common.{◌≡◌, ℕ, ◌+◌, ◌-◌, ◌≤◌, Bool, List, [], ◌∷◌, ◌++◌, length, length-append, slice_get, slice_set, Some, zero, suc, ap, refl, sym, ◌∙◌, subst, ◌⊎◌, inl, inr, arith}
 use Rattle.std.proofs.lemmas.Bool.Decides.{leb_tells}
 use Rattle.std.proofs.lemmas.List.{length-set}
 use Rattle.std.specs.declared.vec.Vec.{Vec}
@@ -10,9 +10,10 @@ use Rattle.psc_graph.specs.declared.node.Node.{Node}
 use Rattle.psc_graph.specs.declared.node.Leaf.{Leaf}
 use Rattle.psc_graph.specs.declared.node.Leaf.TheVariants.{Rigid, Constant, Bound, NoArgument}
 use Rattle.psc_graph.proofs.Put.{put_at, put_past}
-use Rattle.psc_scopes.specs.Scope.{Holds, Rises, AllRise, IsGiven, Lies, IsWithin, Extends}
-use Rattle.psc_scopes.specs.Keeping.{KeepsLeaf, Keeps, scope_at, IsScope, AreScopes, IsLeft, Narrows, AllKeep, SmallKeep, LeftKeep, IsNarrowed}
+use Rattle.psc_scopes.specs.Scope.{Holds, AllRise, Lies, IsWithin, Extends}
+use Rattle.psc_scopes.specs.Keeping.{KeepsLeaf, Keeps, scope_at, IsScope, AreScopes, IsLeft, Narrows, SmallKeep, LeftKeep, IsNarrowed}
 
+-- what keeps to a set keeps to a wider one
 module _ (may : ℕ → ℕ → Bool) (S T : ℕ → Type 0) (h : (r : ℕ) → S r → T r) where
   more_leaf : (a : Leaf) → KeepsLeaf S a → KeepsLeaf T a
   more_leaf (Rigid r k) x = h r x
@@ -54,6 +55,7 @@ module _ (may : ℕ → ℕ → Bool) (S T U : ℕ → Type 0) (h : (r : ℕ) �
   keeps_both (TJoin f x y) a b = (keeps_both x a.0 b.0, keeps_both y a.1 b.1)
   keeps_both (TField l x y) a b = (keeps_both x a.0 b.0, keeps_both y a.1 b.1)
 
+-- a row keeps to a set where its fields do
 module _ (may : ℕ → ℕ → Bool) (S : ℕ → Type 0) where
   pub keeps_put : (l : ℕ) (t r : Tree) → Keeps may S t → Keeps may S r → Keeps may S (put l t r)
   keeps_put l t (Hole x k) a b = (a, b)
@@ -111,6 +113,7 @@ narrows_same nodes lists before after are same le = record {
 pub narrows_none : (nodes : List Node) (lists : List (Vec ℕ Global)) (bounds : List ℕ) → AreScopes lists bounds → Narrows nodes lists lists bounds bounds
 narrows_none nodes lists bounds are = narrows_same nodes lists bounds bounds are (λ q. refl) (omega arith)
 
+-- narrower twice
 module _ (nodes : List Node) (A B C : List (Vec ℕ Global)) (a b c : List ℕ) (one : Narrows nodes A B a b) (two : Narrows nodes B C b c) where
   within_both : (q : ℕ) → IsWithin C (scope_at c q) (scope_at a q)
   within_both q r lies = lies_on B C two.extends (scope_at a q) r (one.within q r (lies_back B C two.extends (scope_at b q) r (one.scopes.each q) (two.within q r lies)))
@@ -127,6 +130,7 @@ module _ (nodes : List Node) (A B C : List (Vec ℕ Global)) (a b c : List ℕ) 
     ];
   }
 
+-- what scopes that became narrower leave as it was
 module _ (nodes : List Node) (A B : List (Vec ℕ Global)) (a b : List ℕ) (are : AreScopes A a) (step : Narrows nodes A B a b) where
   -- what lies in a scope of now lay in it before
   pub narrows_back : (q r : ℕ) → Lies B (scope_at b q) r → Lies A (scope_at a q) r
@@ -147,13 +151,13 @@ module _ (nodes : List Node) (A B : List (Vec ℕ Global)) (a b : List ℕ) (are
   keeps_on : (place : ℕ) → IsNarrowed nodes A a place → (may : ℕ → ℕ → Bool) (v : ℕ → Tree) → Solves v nodes → SmallKeep may B b v (size (v place)) → LeftKeep may nodes B b v (size (v place)) → Keeps may (Lies B (scope_at b place)) (v place)
   keeps_on place is may v sol small left = elim (step.same place) [
     | inl e ↦ keeps_more may (Lies A (scope_at a place)) (Lies B (scope_at b place))
-      (λ r lies. subst (λ s. Lies B s r) (sym e) (lies_on A B step.extends (scope_at a place) r lies)) (v place)
-      (is.keeps may v sol (small_back may v (size (v place)) small) (left_back may v (size (v place)) left))
+        (λ r lies. subst (λ s. Lies B s r) (sym e) (lies_on A B step.extends (scope_at a place) r lies)) (v place)
+        (is.keeps may v sol (small_back may v (size (v place)) small) (left_back may v (size (v place)) left))
     | inr l ↦ left.each place l.0 l.1 (omega arith)
   ]
 
-  pub narrowed_on : (place : ℕ) → IsNarrowed nodes A a place → IsNarrowed nodes B b place
-  narrowed_on place is = record { keeps = keeps_on place is }
+pub narrowed_on : (nodes : List Node) (A B : List (Vec ℕ Global)) (a b : List ℕ) (place : ℕ) → AreScopes A a → Narrows nodes A B a b → IsNarrowed nodes A a place → IsNarrowed nodes B b place
+narrowed_on nodes A B a b place are step is = record { keeps = keeps_on nodes A B a b are step place is }
 
 -- a scope is written at an unknown that is left
 set_cases : (xs : List ℕ) (i y q : ℕ) → (scope_at (slice_set xs i y) q ≡ scope_at xs q) ⊎ ((q ≡ i) × (scope_at (slice_set xs i y) q ≡ y))
@@ -170,10 +174,13 @@ module _ (nodes : List Node) (old new : List (Vec ℕ Global)) (before after : L
     (are : AreScopes old before) (more : Extends old new) (rise : AllRise new) (scope : IsScope new both) (within : IsWithin new both (scope_at before at)) (free : IsLeft nodes at) where
   pub narrows_put : Narrows nodes old new before after
   narrows_put = record {
-    scopes = record { rise = rise; each = λ q. elim (put_cases before after at both q is) [
-      | inl e ↦ subst (IsScope new) (sym e) (scope_on old new more (scope_at before q) (are.each q))
-      | inr p ↦ subst (IsScope new) (sym p.1) scope
-    ] };
+    scopes = record {
+      rise = rise;
+      each = λ q. elim (put_cases before after at both q is) [
+        | inl e ↦ subst (IsScope new) (sym e) (scope_on old new more (scope_at before q) (are.each q))
+        | inr p ↦ subst (IsScope new) (sym p.1) scope
+      ];
+    };
     extends = more;
     longer = (let e : length after ≡ length before = ap length is ∙ length-set before at both in omega arith);
     within = λ q. elim (put_cases before after at both q is) [

@@ -1,9 +1,9 @@
 -- The walk's steps, and what it has shown at its end.
-use Rattle.std.proofs.Common.{◌≡◌, ℕ, ◌<◌, ◌≤◌, Bool, true, false, ◌||◌, eqb, List, [], ◌∷◌, ◌++◌, length, slice_get, slice_set, Some, zero, suc, ap, refl, sym, ◌∙◌, subst, ◌⊎◌, inl, inr, arith, eq-eqb}
+use Rattle.std.proofs.Common.{◌≡◌, ℕ, ◌<◌, ◌≤◌, Bool, true, false, ◌||◌, eqb, List, [], ◌∷◌, ◌++◌, slice_get, slice_set, Some, zero, suc, ap, refl, sym, ◌∙◌, subst, ◌⊎◌, inl, inr, arith, eq-eqb}
 use Rattle.std.proofs.lemmas.Bool.Decides.{eqb_tells}
 use Rattle.std.specs.declared.vec.Vec.{Vec}
 use Rattle.std.specs.declared.alloc.Global.{Global}
-use Rattle.psc_graph.specs.Tree.{Tree, TAtom, TJoin, put, size}
+use Rattle.psc_graph.specs.Tree.{Tree, TJoin, size}
 use Rattle.psc_graph.specs.Model.{Solves, Follows}
 use Rattle.psc_graph.specs.Explore.{Has, parts_of}
 use Rattle.psc_graph.specs.declared.node.Node.{Node}
@@ -13,7 +13,7 @@ use Rattle.psc_graph.specs.declared.node.Leaf.TheVariants.{Rigid, Constant, Boun
 use Rattle.psc_graph.proofs.Nodes.{follows, at_join, at_field, size_join, size_field}
 use Rattle.psc_graph.proofs.Walk.{has_last, has_more, has_new}
 use Rattle.psc_scopes.specs.Scope.{AllRise, Lies, IsWithin, Extends}
-use Rattle.psc_scopes.specs.Keeping.{KeepsLeaf, Keeps, scope_at, IsScope, AreScopes, IsLeft, Narrows, AllKeep, SmallKeep, LeftKeep, IsNarrowed}
+use Rattle.psc_scopes.specs.Keeping.{KeepsLeaf, Keeps, scope_at, AreScopes, Narrows, AllKeep, SmallKeep, LeftKeep, IsNarrowed}
 use Rattle.psc_scopes.specs.Walking.{Meeting, IsCovered, IsLooked, Looked, NotedKeep}
 use Rattle.psc_scopes.proofs.Keeping.{keeps_more, keeps_both, keeps_all, keeps_put, keeps_unput, lies_on, within_on, put_cases}
 
@@ -136,8 +136,8 @@ module _ (nodes : List Node) (old new : List (Vec ℕ Global)) (before after : L
     each = λ k e. elim (or_cases (eqb k end) (seen k) (sym (marked k) ∙ e)) [
       | inl s ↦ looked_here k (eqb_same k end s)
       | inr s ↦ looked_on nodes old new before after scope are step next more k
-        (looked_after nodes old before scope seen all work at popped next more (λ q e. seen_more seen next end q (marked q) e) (λ q h. subst (Has q) (sym noted) (has_more q work (parts_of node) h))
-        (record { end = end; known = inl (seen_new seen next end (marked end)); linked = linked }) k (was.each k s))
+          (looked_after nodes old before scope seen all work at popped next more (λ q e. seen_more seen next end q (marked q) e) (λ q h. subst (Has q) (sym noted) (has_more q work (parts_of node) h))
+          (record { end = end; known = inl (seen_new seen next end (marked end)); linked = linked }) k (was.each k s))
     ];
   }
 
@@ -199,7 +199,7 @@ module _ (nodes : List Node) (old lists : List (Vec ℕ Global)) (before bounds 
       let sizes = ap size one in
       elim (step.same place) [
         | inl e ↦ subst (λ s. Keeps may (Lies lists s) (v place)) (sym e) (subst (Keeps may (Lies lists (scope_at before place))) (sym one)
-          (walked_keeps nodes lists bounds (scope_at before place) seen done may v sol (size (v place)) small left end was (omega arith)))
+            (walked_keeps nodes lists bounds (scope_at before place) seen done may v sol (size (v place)) small left end was (omega arith)))
         | inr l ↦ left.each place l.0 l.1 (omega arith)
       ]
 
@@ -273,6 +273,6 @@ module _ (may : ℕ → ℕ → Bool) (v : ℕ → Tree) (nodes : List Node) (so
         elim (met.each q) [
           | inl e ↦ subst (λ s. Keeps may (Lies new s) (v q)) (sym e) own
           | inr p ↦ keeps_both may (Lies new (scope_at before q)) (Lies new scope) (Lies new (scope_at after q)) p.1 (v q) own
-            (subst (λ k. Keeps may (Lies new scope) (v k)) (sym p.0) (keeps_more may (Lies old scope) (Lies new scope) (lies_on old new more scope) (v at) here))
+              (subst (λ k. Keeps may (Lies new scope) (v k)) (sym p.0) (keeps_more may (Lies old scope) (Lies new scope) (lies_on old new more scope) (v at) here))
         ];
   }

@@ -1,4 +1,4 @@
-use Rattle.std.proofs.Common.{◌≡◌, ℕ, ◌≤◌, List, [], length, Err, ap, subst, sym, ◌∙◌, inr, arith}
+use Rattle.std.proofs.Common.{[], Err, ap, subst, sym, ◌∙◌, inr, arith}
 use Rattle.std.proofs.lemmas.Option.{slice_get_within}
 use Rattle.std.specs.BTreeSet.{contains}
 use Rattle.std.specs.Ordering.{nat_cmp}

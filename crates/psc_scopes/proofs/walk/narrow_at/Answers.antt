@@ -1,10 +1,8 @@
-use Rattle.std.proofs.Common.{◌≡◌, ℕ, Err, Some, ap, subst, sym, ◌∙◌, arith}
+use Rattle.std.proofs.Common.{ℕ, Err, ap, subst, sym, ◌∙◌, arith}
 use Rattle.std.proofs.lemmas.Option.{slice_get_within}
 use Rattle.std.specs.BTreeSet.{contains}
 use Rattle.std.specs.Ordering.{nat_cmp}
-use Rattle.psc_graph.specs.declared.node.Node.{Node}
 use Rattle.psc_scopes.specs.Scope.{IsWithin}
-use Rattle.psc_scopes.specs.Keeping.{Keeps}
 use Rattle.psc_scopes.proofs.Scopes.{passed, beyond}
 use Rattle.psc_scopes.proofs.Walking.{looked_skipped, looked_seen, looked_visited, keeps_end, escaped, noted_parts, all_keep_on}
 use Rattle.psc_scopes.proofs.walk.narrow_at.Goals as goal

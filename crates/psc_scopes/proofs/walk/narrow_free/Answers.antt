@@ -1,8 +1,8 @@
-use Rattle.std.proofs.Common.{ℕ, sym, subst, ap, ◌∙◌, List}
+use Rattle.std.proofs.Common.{ℕ, sym, subst}
 use Rattle.psc_scopes.specs.Scope.{Lies, IsWithin}
-use Rattle.psc_scopes.specs.Keeping.{IsScope, scope_at}
+use Rattle.psc_scopes.specs.Keeping.{IsScope}
 use Rattle.psc_scopes.proofs.Undoing.{written_at}
-use Rattle.psc_scopes.proofs.Keeping.{narrows_put, lies_on}
+use Rattle.psc_scopes.proofs.Keeping.{narrows_put}
 use Rattle.psc_scopes.proofs.Walking.{meeting_put}
 use Rattle.psc_scopes.proofs.walk.narrow_free.Goals as goal
 

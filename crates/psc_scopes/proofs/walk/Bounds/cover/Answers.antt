@@ -1,4 +1,4 @@
-use Rattle.std.proofs.Common.{arith, length}
+use Rattle.std.proofs.Common.{arith}
 use Rattle.psc_scopes.proofs.Keeping.{zero_added, length_added}
 use Rattle.psc_scopes.proofs.walk.Bounds.cover.Goals as goal
 
