@@ -1,6 +1,5 @@
 -- Unknowns that were linked are remembered.
 use Rattle.std.specs.Prelude.{◌≡◌, ℕ, List, slice_get, Some, ◌⊎◌}
-use Rattle.psc_graph.specs.declared.node.Node.{Node}
 use Rattle.psc_graph.specs.declared.node.Node.TheVariants.{Free}
 use Rattle.psc_rows.specs.declared.graph.Write.{Write}
 use Rattle.psc_rows.specs.declared.graph.Graph.{Graph}

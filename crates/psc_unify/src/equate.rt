@@ -3,6 +3,7 @@ ghost use Rattle.std.specs.Prelude.{◌≡◌, ℕ, ◌<◌, ◌≤◌, Bool, Li
 ghost use Rattle.psc_graph.specs.Tree.{Tree};
 ghost use Rattle.psc_graph.specs.Model.{Solves};
 ghost use Rattle.psc_type.specs.declared.ty.Ty.{Ty};
+ghost use Rattle.psc_rows.specs.Writes.{Remembers};
 ghost use Rattle.psc_scopes.specs.Scope.{AreOpen, HasBeyond};
 ghost use Rattle.psc_scopes.specs.Keeping.{AreScopes, Narrows, AllKeep, IsNarrowed};
 ghost use Rattle.psc_unify.specs.Solved.{Stands, HasNone, ArePlain, Continues};
@@ -31,6 +32,7 @@ pub fn relate(
     ensures clash { result ≡ Ok false → ArePlain unknowns.now a.now b.now → (kinds : List ℕ) (eqs : List (Ty × Ty)) → Stands graph.old names.old unknowns.now kinds eqs → HasNone names.new kinds ((a.now, b.now) ∷ eqs) }
     ensures goes_on { result ≡ Ok true → ArePlain unknowns.now a.now b.now → (kinds : List ℕ) (eqs : List (Ty × Ty)) → Stands graph.old names.old unknowns.now kinds eqs → GoesOn graph.old graph.new }
     ensures names { OnOk result (Continues names.old names.new) }
+    ensures remembers { result ≡ Ok true → Remembers graph.old graph.new }
 {
     let mut binders = Vec::new(alloc);
     let left = add_type(graph, names, unknowns, &mut binders, a)?;
