@@ -44,6 +44,7 @@ impl Bounds {
     /// Gives the first `count` places a scope, where they have none.
     pub fn cover(&mut self, count: usize) -> Result<(), Stop>
         ensures zeros { OnOk result ((q : ℕ) → scope_at self.new.scopes.items q ≡ scope_at self.old.scopes.items q) }
+        ensures longer { OnOk result (length self.old.scopes.items ≤ length self.new.scopes.items) }
         ensures covered { OnOk result (count ≤ length self.new.scopes.items) }
         ensures exact { OnOk result (length self.old.scopes.items ≤ count → length self.new.scopes.items ≡ count) }
         ensures restores { (xs : List ℕ) → Restores self.old xs → Restores self.new xs }

@@ -4,26 +4,28 @@ use Rattle.std.proofs.lemmas.Option.{slice_get_within}
 use Rattle.std.specs.declared.vec.Vec.{Vec}
 use Rattle.std.specs.declared.alloc.Global.{Global}
 use Rattle.psc_text.specs.declared.names.Ident.{Ident}
-use Rattle.psc_graph.specs.Tree.{Tree, Hole, TAtom, TJoin, TField, size}
+use Rattle.psc_type.specs.declared.ty.Ty.{Ty}
+use Rattle.psc_graph.specs.Tree.{Tree, size}
 use Rattle.psc_graph.specs.Model.{Solves}
 use Rattle.psc_graph.specs.General.{IsSolution}
 use Rattle.psc_graph.specs.declared.node.Node.{Node}
 use Rattle.psc_graph.specs.declared.node.Node.TheVariants.{Free}
-use Rattle.psc_graph.specs.declared.node.Leaf.{Leaf}
 use Rattle.psc_graph.specs.declared.node.Leaf.TheVariants as leaf
 use Rattle.psc_graph.proofs.Writes.{after_push, before_push, pushed}
 use Rattle.psc_rows.specs.declared.graph.Graph.{Graph}
 use Rattle.psc_rows.specs.declared.graph.Write.{Write}
-use Rattle.psc_rows.specs.Writes.{IsRemembered}
+use Rattle.psc_rows.specs.Writes.{IsRemembered, Remembers}
+use Rattle.psc_scopes.specs.declared.table.ScopeTable.{ScopeTable}
 use Rattle.psc_scopes.specs.Scope.{AllRise, Extends, Holds, Lies}
-use Rattle.psc_scopes.specs.Keeping.{Keeps, KeepsLeaf, scope_at, IsScope, AreScopes, Narrows, AllKeep, SmallKeep, LeftKeep, IsNarrowed}
-use Rattle.psc_scopes.proofs.Keeping.{keeps_more, lies_on, lies_back}
+use Rattle.psc_scopes.specs.Keeping.{Keeps, scope_at, IsScope, AreScopes, Narrows, AllKeep, SmallKeep, LeftKeep, IsNarrowed}
+use Rattle.psc_scopes.proofs.Keeping.{keeps_more, keeps_all, lies_on, lies_back, scope_on}
 use Rattle.psc_unify.specs.declared.tables.Names.{Names}
-use Rattle.psc_unify.specs.Tables.{HasNumbers}
+use Rattle.psc_unify.specs.Tables.{HasNumbers, IsScopeOf}
 use Rattle.psc_unify.specs.Naming.{Naming}
-use Rattle.psc_unify.specs.Solved.{Fits, Continues, Values}
-use Rattle.psc_unify.specs.Scoped.{IsNamed, HaveKept, AreKept, KeepsScopes, GoesOn}
+use Rattle.psc_unify.specs.Solved.{Fits, Continues, Values, Stands}
+use Rattle.psc_unify.specs.Scoped.{IsNamed, HaveKept, AreKept, KeepsScopes, GoesOn, AreNarrowed, HasNoneScoped}
 use Rattle.psc_unify.proofs.Naming.{fits_before}
+use Rattle.psc_unify.proofs.ScopedSolving.{none_scoped}
 use Rattle.psc_unify.proofs.Small.{none_some, some_same, not_below}
 
 lt_side : (a m : ℕ) → a < suc m → a ≤ m
@@ -55,19 +57,6 @@ not_last q p n lt is last = omega arith
 
 rigid_same : (a b c d : ℕ) → leaf.Rigid a b ≡ leaf.Rigid c d → a ≡ c
 rigid_same a b c d e = cc
-
--- every tree keeps to the set of all
-leaf_all : (S : ℕ → Type 0) → ((r : ℕ) → S r) → (a : Leaf) → KeepsLeaf S a
-leaf_all S all (leaf.Rigid r k) = all r
-leaf_all S all (leaf.Constant c k) = tt
-leaf_all S all (leaf.Bound i) = tt
-leaf_all S all leaf.NoArgument = tt
-
-keeps_all : (may : ℕ → ℕ → Bool) (S : ℕ → Type 0) → ((r : ℕ) → S r) → (t : Tree) → Keeps may S t
-keeps_all may S all (Hole x k) = λ r e. all r
-keeps_all may S all (TAtom a) = leaf_all S all a
-keeps_all may S all (TJoin f a b) = (keeps_all may S all a, keeps_all may S all b)
-keeps_all may S all (TField l t r) = (keeps_all may S all t, keeps_all may S all r)
 
 -- an equation linked unknowns, and their scopes were narrowed
 module _ (nodes after : List Node) (old new : List (Vec ℕ Global)) (before bounds : List ℕ) (writes : List Write)
@@ -195,9 +184,6 @@ module _ (g h : Graph) (n m : Names) (old new : List (Vec ℕ Global)) (bounds m
   given_scope : IsScope new scope
   given_scope = inr (list, at_list)
 
-  scope_on : (t : ℕ) → IsScope old t → IsScope new t
-  scope_on t is = elim is [ inl e ↦ inl e | inr e ↦ inr (e.0, extends (t - 1) e.0 e.1) ]
-
   named : (e : Naming) → Fits e m → (r : ℕ) → Lies new scope r → IsNamed e own r
   named e fits r lies = elim lies [
     | inl z ↦ absurd (given z)
@@ -262,7 +248,7 @@ module _ (g h : Graph) (n m : Names) (old new : List (Vec ℕ Global)) (bounds m
       rise = rise st.are.rise;
       each = λ q. elim (at_place q) [
         | inl a ↦ subst (λ (u : ℕ). IsScope new u) (sym a.1) given_scope
-        | inr a ↦ subst (λ (u : ℕ). IsScope new u) (sym a) (scope_on (scope_at bounds q) (st.are.each q))
+        | inr a ↦ subst (λ (u : ℕ). IsScope new u) (sym a) (scope_on old new extends (scope_at bounds q) (st.are.each q))
       ];
     };
     inside = inside_new;
@@ -275,3 +261,48 @@ module _ (g h : Graph) (n m : Names) (old new : List (Vec ℕ Global)) (bounds m
       ];
     };
   }
+
+-- a new unknown, as its call leaves names and scopes
+pub scopes_given : (g h : Graph) (n m o : Names) (old mid new : ScopeTable) (bounds more unknowns asked : List ℕ) (scopes : List (List Ident)) (s scope : ℕ) (own slice : List Ident)
+    → Continues n m → o ≡ m → new ≡ mid → h.nodes.items ≡ g.nodes.items ++ Free s ∷ [] → asked ≡ unknowns ++ length g.nodes.items ∷ [] → more ≡ bounds ++ scope ∷ [] → slice ≡ own
+    → Extends old.lists.items mid.lists.items → (AllRise old.lists.items → AllRise mid.lists.items) → IsScopeOf mid.lists.items m.rigids.rows.items slice scope
+    → ((x k : ℕ) → slice_get unknowns x ≡ Some k → k < length g.nodes.items)
+    → KeepsScopes g n old.lists.items bounds unknowns scopes → KeepsScopes h o new.lists.items more asked (scopes ++ own ∷ [])
+scopes_given g h n m o old mid new bounds more unknowns asked scopes s scope own slice cont names tables is_nodes is_asked is_bounds is extends rise given below st =
+    let of = subst (λ (l : List Ident). IsScopeOf mid.lists.items m.rigids.rows.items l scope) is given in
+    subst (λ (x : Names). KeepsScopes h x new.lists.items more asked (scopes ++ own ∷ [])) (sym names)
+    (subst (λ (x : ScopeTable). KeepsScopes h m x.lists.items more asked (scopes ++ own ∷ [])) (sym tables)
+    (scopes_fresh g h n m old.lists.items mid.lists.items bounds more unknowns asked scopes s (length g.nodes.items) scope own of.1 cont is_nodes refl is_asked is_bounds extends rise of.0 of.2 of.3.only of.3.all below st))
+
+le_from : (a b c : ℕ) → a ≡ b → b ≤ c → a ≤ c
+le_from a b c e h = omega arith
+
+-- an equation more, as its steps leave scopes and names
+module _ (g k h : Graph) (n m : Names) (old new : List (Vec ℕ Global)) (before same : Vec ℕ Global) (unknowns : List ℕ) (scopes : List (List Ident)) (is : same ≡ before) where
+  same_scopes : KeepsScopes g n old before.items unknowns scopes → KeepsScopes g n old same.items unknowns scopes
+  same_scopes st = subst (λ (b : Vec ℕ Global). KeepsScopes g n old b.items unknowns scopes) (sym is) st
+
+  pub scopes_equal : (bounds : List ℕ) → Continues n m → GoesOn g h → k.nodes ≡ g.nodes → Remembers k h
+      → (AreScopes old same.items → Narrows h.nodes.items old new same.items bounds)
+      → (AreScopes old same.items → AreNarrowed h.nodes.items new bounds h.writes.items (length h.writes.items))
+      → ((may : ℕ → ℕ → Bool) (v : ℕ → Tree) → AreScopes old same.items → Solves v h.nodes.items → AllKeep may old same.items v → AllKeep may new bounds v)
+      → (length same.items ≤ length h.nodes.items → length bounds ≡ length h.nodes.items)
+      → KeepsScopes g n old before.items unknowns scopes → KeepsScopes h m new bounds unknowns scopes
+  scopes_equal bounds cont on nodes rem narrows narrowed keeps covers old_st =
+      let st = same_scopes old_st in
+      let known : (j s : ℕ) → slice_get g.nodes.items j ≡ Some (Free s) → (slice_get h.nodes.items j ≡ Some (Free s)) ⊎ IsRemembered h.writes.items j s =
+      λ j s e. rem.unknowns j s (ap (λ v. slice_get v.items j) nodes ∙ e) in
+      scopes_after g h n m old new same.items bounds unknowns scopes h.writes.items cont on known (narrows st.are)
+      (λ i s w at free. narrowed st.are i s w (slice_get_within h.writes.items i w at) at free)
+      (λ may v sol all. keeps may v st.are sol all)
+      (covers (le_from (length same.items) (length g.nodes.items) (length h.nodes.items) st.covers on.longer))
+      st
+
+  -- or it leaves no solution that keeps to the scopes
+  pub none_escaped : (o : Names) (kinds : List ℕ) (eqs : List (Ty × Ty)) → Continues n m → o ≡ m → GoesOn g h → Stands h m unknowns kinds eqs
+      → ((may : ℕ → ℕ → Bool) (v : ℕ → Tree) → AreScopes old same.items → Solves v h.nodes.items → AllKeep may old same.items v → ⊥)
+      → KeepsScopes g n old before.items unknowns scopes → HasNoneScoped o kinds scopes eqs
+  none_escaped o kinds eqs cont names on stands escapes old_st =
+      let st = same_scopes old_st in
+      subst (λ (x : Names). HasNoneScoped x kinds scopes eqs) (sym names)
+      (none_scoped g h n m old same.items unknowns kinds scopes eqs cont on stands st (λ may v sol all. escapes may v st.are sol all))

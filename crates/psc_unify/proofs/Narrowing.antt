@@ -7,10 +7,10 @@ use Rattle.psc_graph.specs.Model.{Solves}
 use Rattle.psc_graph.specs.declared.node.Node.{Node}
 use Rattle.psc_graph.specs.declared.node.Node.TheVariants.{Free}
 use Rattle.psc_rows.specs.declared.graph.Write.{Write}
-use Rattle.psc_scopes.specs.Scope.{AreOpen}
-use Rattle.psc_scopes.specs.Keeping.{AreScopes, Narrows, AllKeep, IsNarrowed}
+use Rattle.psc_scopes.specs.Scope.{AreOpen, Lies}
+use Rattle.psc_scopes.specs.Keeping.{Keeps, scope_at, AreScopes, Narrows, AllKeep, IsNarrowed}
 use Rattle.psc_scopes.proofs.Scopes.{nat_side}
-use Rattle.psc_scopes.proofs.Keeping.{narrows_none, narrows_more, narrowed_on}
+use Rattle.psc_scopes.proofs.Keeping.{narrows_same, narrows_none, narrows_more, narrowed_on}
 use Rattle.psc_unify.specs.Scoped.{AreNarrowed}
 use Rattle.psc_unify.proofs.Small.{some_same}
 
@@ -43,7 +43,7 @@ module _ (nodes : List Node) (writes : List Write) (old mid new : List (Vec ℕ 
     (opened : (m : ℕ) → AreOpen mid m → AreOpen new m)
     (long : length after ≡ length between)
     (narrows : AreScopes mid between → Narrows nodes mid new between after)
-    (narrowed : AreScopes mid between → length nodes ≤ length between → (s : ℕ) → write.node ≡ Free s → IsNarrowed nodes new after write.place)
+    (narrowed : (s : ℕ) → write.node ≡ Free s → AreScopes mid between → length nodes ≤ length between → IsNarrowed nodes new after write.place)
     (keeps : (may : ℕ → ℕ → Bool) (v : ℕ → Tree) → AreScopes mid between → Solves v nodes → AllKeep may mid between v → AllKeep may new after v)
     (first : IsNarrowing nodes writes old mid before between n) where
   all_narrowed : AreScopes old before → length nodes ≤ length before → AreNarrowed nodes new after writes (n + 1)
@@ -52,7 +52,7 @@ module _ (nodes : List Node) (writes : List Write) (old mid new : List (Vec ℕ 
       elim (nat_side i n lt) [
         | inl p ↦ narrowed_on nodes mid new between after w.place there (narrows there) (first.narrowed are covers i s w p here free)
         | inr p ↦ (let is : write ≡ w = some_same write w (at ∙ ap (slice_get writes) (sym p) ∙ here) in
-            subst (λ (x : Write). IsNarrowed nodes new after x.place) is (narrowed there (le_same (length nodes) (length before) (length between) covers first.long) s (ap (λ (x : Write). x.node) is ∙ free)))
+            subst (λ (x : Write). IsNarrowed nodes new after x.place) is (narrowed s (ap (λ (x : Write). x.node) is ∙ free) there (le_same (length nodes) (length before) (length between) covers first.long)))
       ]
 
   pub narrowing_more : IsNarrowing nodes writes old new before after (n + 1)
@@ -69,3 +69,35 @@ narrowed_all nodes writes lists bounds n past all i s w lt = all i s w (lt_past 
   where
     lt_past : (a b c : ℕ) → a < b → b ≤ c → a < c
     lt_past a b c h g = omega arith
+
+-- places without scopes were added before
+module _ (nodes slice : List Node) (old new : List (Vec ℕ Global)) (before covered after : List ℕ) (is : slice ≡ nodes)
+    (zeros : (q : ℕ) → scope_at covered q ≡ scope_at before q) (longer : length before ≤ length covered) where
+  are_covered : AreScopes old before → AreScopes old covered
+  are_covered are = (narrows_same nodes old before covered are zeros longer).scopes
+
+  keep_covered : (may : ℕ → ℕ → Bool) (v : ℕ → Tree) → AllKeep may old before v → AllKeep may old covered v
+  keep_covered may v all = record { each = λ q. subst (λ (s : ℕ). Keeps may (Lies old s) (v q)) (sym (zeros q)) (all.each q) }
+
+  solves_slice : (v : ℕ → Tree) → Solves v nodes → Solves v slice
+  solves_slice v sol = subst (λ (l : List Node). Solves v l) (sym is) sol
+
+  pub narrows_covered : (AreScopes old covered → Narrows slice old new covered after) → AreScopes old before → Narrows nodes old new before after
+  narrows_covered h are =
+      narrows_more nodes old old new before covered after (narrows_same nodes old before covered are zeros longer)
+      (subst (λ (l : List Node). Narrows l old new covered after) is (h (are_covered are)))
+
+  pub keeps_covered : ((may : ℕ → ℕ → Bool) (v : ℕ → Tree) → AreScopes old covered → Solves v slice → AllKeep may old covered v → AllKeep may new after v)
+      → (may : ℕ → ℕ → Bool) (v : ℕ → Tree) → AreScopes old before → Solves v nodes → AllKeep may old before v → AllKeep may new after v
+  keeps_covered h may v are sol all = h may v (are_covered are) (solves_slice v sol) (keep_covered may v all)
+
+  pub escapes_covered : ((may : ℕ → ℕ → Bool) (v : ℕ → Tree) → AreScopes old covered → Solves v slice → AllKeep may old covered v → ⊥)
+      → (may : ℕ → ℕ → Bool) (v : ℕ → Tree) → AreScopes old before → Solves v nodes → AllKeep may old before v → ⊥
+  escapes_covered h may v are sol all = h may v (are_covered are) (solves_slice v sol) (keep_covered may v all)
+
+  pub narrowed_covered : (writes all : List Write) → all ≡ writes → length nodes ≤ length covered → (AreScopes old covered → length slice ≤ length covered → AreNarrowed slice new after all (length all))
+      → AreScopes old before → AreNarrowed nodes new after writes (length writes)
+  narrowed_covered writes all same covers h are =
+      subst (λ (l : List Node). AreNarrowed l new after writes (length writes)) is
+      (subst (λ (w : List Write). AreNarrowed slice new after w (length w)) same
+      (h (are_covered are) (subst (λ (l : List Node). length l ≤ length covered) (sym is) covers)))

@@ -117,9 +117,10 @@ module _ (graph : Graph) (names : Names) (lists : List (Vec ℕ Global)) (bounds
         );
   }
 
-  -- where scopes are left aside, there is a solution
-  pub some_solution : HasSome names kinds eqs
-  some_solution = λ e fits. (values_of m unknowns, (most_general graph names unknowns kinds eqs st e fits).solution)
+-- with scopes left aside, there is a solution
+pub some_solution : (graph : Graph) (m o : Names) (unknowns kinds : List ℕ) (eqs : List (Ty × Ty)) → o ≡ m → Stands graph m unknowns kinds eqs → HasSome o kinds eqs
+some_solution graph m o unknowns kinds eqs names st =
+    subst (λ (x : Names). HasSome x kinds eqs) (sym names) (λ e fits. (values_of st.ready.value unknowns, (most_general graph m unknowns kinds eqs st e fits).solution))
 
 -- the scopes refuse what the graph allows
 pub none_scoped : (g h : Graph) (n m : Names) (lists : List (Vec ℕ Global)) (bounds unknowns kinds : List ℕ) (scopes : List (List Ident)) (eqs : List (Ty × Ty))

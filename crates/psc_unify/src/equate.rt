@@ -64,7 +64,7 @@ fn narrow_write(
     ensures clash { result ≡ Err Stop.Clash → (n : ℕ) → AreOpen scopes.old.lists.items n → HasBeyond nodes.now n }
     ensures narrows { OnOk result (AreScopes scopes.old.lists.items bounds.old.scopes.items → Narrows nodes.now scopes.old.lists.items scopes.new.lists.items bounds.old.scopes.items bounds.new.scopes.items) }
     ensures length { OnOk result (length bounds.new.scopes.items ≡ length bounds.old.scopes.items) }
-    ensures narrowed { OnOk result (AreScopes scopes.old.lists.items bounds.old.scopes.items → length nodes.now ≤ length bounds.old.scopes.items → (s : ℕ) → write.node ≡ Node.Free s → IsNarrowed nodes.now scopes.new.lists.items bounds.new.scopes.items write.place) }
+    ensures narrowed { (s : ℕ) → write.node ≡ Node.Free s → OnOk result (AreScopes scopes.old.lists.items bounds.old.scopes.items → length nodes.now ≤ length bounds.old.scopes.items → IsNarrowed nodes.now scopes.new.lists.items bounds.new.scopes.items write.place) }
     ensures keeps { OnOk result ((may : ℕ → ℕ → Bool) (v : ℕ → Tree) → AreScopes scopes.old.lists.items bounds.old.scopes.items → Solves v nodes.now → AllKeep may scopes.old.lists.items bounds.old.scopes.items v → AllKeep may scopes.new.lists.items bounds.new.scopes.items v) }
     ensures escapes { result ≡ Err Stop.Clash → (may : ℕ → ℕ → Bool) (v : ℕ → Tree) → AreScopes scopes.old.lists.items bounds.old.scopes.items → Solves v nodes.now → AllKeep may scopes.old.lists.items bounds.old.scopes.items v → ⊥ }
 {

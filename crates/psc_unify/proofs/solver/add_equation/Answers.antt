@@ -1,5 +1,7 @@
 use Rattle.std.proofs.Common.{length, refl}
-use Rattle.psc_unify.proofs.Standing.{at_slice, none_slice, none_named}
+use Rattle.psc_unify.proofs.Standing.{at_slice, none_slice, none_named, goes_slice}
+use Rattle.psc_unify.proofs.Kept.{scopes_equal, none_escaped}
+use Rattle.psc_unify.proofs.ScopedSolving.{some_solution}
 use Rattle.psc_unify.proofs.solver.add_equation.Goals as goal
 
 pub returns-in-Ok-clause-solved : goal.returns-in-Ok-clause-solved
@@ -15,3 +17,10 @@ returns-then-not-solved-clause-clash c = λ e plain kinds eqs st.
 
 pub returns-then-not-solved-clause-plain : goal.returns-then-not-solved-clause-plain
 returns-then-not-solved-clause-plain c = λ e plain wide. c.in_ok-ended.ensures.plain e (length c.args.state.now.unknowns.items) plain.left plain.right
+
+pub returns-in-Ok-clause-scoped : goal.returns-in-Ok-clause-scoped
+returns-in-Ok-clause-scoped c = λ e plain kinds scopes eqs st kept.
+    let yes = c.if-not-solved.false in
+    let goes = goes_slice _ _ _ _ _ _ _ _ kinds eqs c.as_slice.ensures.value refl refl (c.in_ok-solved.ensures.goes_on (cc)) plain st in
+    scopes_equal _ _ _ _ _ _ _ _ _ _ scopes c.keep.ensures.same _ c.in_ok-solved.ensures.names goes refl (c.in_ok-solved.ensures.remembers (cc))
+    c.in-Ok.ensures.narrows c.in-Ok.ensures.narrowed c.in-Ok.ensures.keeps c.in-Ok.ensures.covers kept

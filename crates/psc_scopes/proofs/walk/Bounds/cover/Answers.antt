@@ -9,5 +9,6 @@ loop-place-preserved c =
       restores = λ xs e. c.in_ok-add_none.ensures.restores xs (c.loop-place.invariant.restores xs e);
       zeros = zero_added _ _ _ c.in_ok-add_none.ensures.added c.loop-place.invariant.zeros;
       long = length_added _ _ _ c.in_ok-add_none.ensures.added c.loop-place.invariant.long;
+      longer = (let le = c.loop-place.invariant.longer in omega arith);
       within = λ le. omega arith;
     }
