@@ -11,7 +11,7 @@ use Rattle.psc_graph.proofs.Writes.{before_push, after_push, pushed}
 use Rattle.psc_graph.specs.declared.node.Node.{Node}
 use Rattle.psc_graph.specs.declared.node.Node.TheVariants.{Atom}
 use Rattle.psc_graph.specs.declared.node.Leaf.TheVariants.{Rigid}
-use Rattle.psc_scopes.specs.Scope.{Holds, HoldsBelow, Rises, AllRise, AreOpen, IsGiven, HasBeyond, Lies, IsWithin, Extends}
+use Rattle.psc_scopes.specs.Scope.{Holds, HoldsBelow, Rises, AllRise, AreOpen, IsGiven, IsGivenAs, HasBeyond, Lies, IsWithin, Extends}
 
 -- what a search does not find is not in a list that rises
 pub not_found : (xs : List ℕ) (x : ℕ) (r : Result ℕ ℕ) (b : Bool) → b ≡ is_ok r → b ≡ false → IsBinarySearchResult (λ y. nat_cmp y x) xs r → Rises xs → Holds xs x → ⊥
@@ -76,6 +76,12 @@ module _ (lists : List (Vec ℕ Global)) where
 
   none_some : (x : Vec ℕ Global) → None ≡ Some x → ⊥
   none_some x e = cc
+
+  pub not_given : (scope : ℕ) (list : List ℕ) → slice_get lists (scope - 1) ≡ None → IsGivenAs lists scope list → ⊥
+  not_given scope list none given = none_some given.0 (sym none ∙ given.1)
+
+  pub given_list : (scope : ℕ) (list : List ℕ) (own : Vec ℕ Global) → slice_get lists (scope - 1) ≡ Some own → IsGivenAs lists scope list → own.items ≡ list
+  given_list scope list own at given = ap (λ (l : Vec ℕ Global). l.items) (some_same own given.0 (sym at ∙ given.1)) ∙ given.2
 
   pub not_listed : (scope r : ℕ) → (scope ≡ 0 → ⊥) → slice_get lists (scope - 1) ≡ None → Lies lists scope r → ⊥
   not_listed scope r other none lies = elim lies [ inl p ↦ other p | inr p ↦ none_some p.0 (sym none ∙ p.1) ]

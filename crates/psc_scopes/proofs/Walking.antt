@@ -15,7 +15,7 @@ use Rattle.psc_graph.proofs.Walk.{has_last, has_more, has_new}
 use Rattle.psc_scopes.specs.Scope.{AllRise, Lies, IsWithin, Extends}
 use Rattle.psc_scopes.specs.Keeping.{KeepsLeaf, Keeps, scope_at, AreScopes, Narrows, AllKeep, SmallKeep, LeftKeep, IsNarrowed}
 use Rattle.psc_scopes.specs.Walking.{Meeting, IsCovered, IsLooked, Looked, NotedKeep}
-use Rattle.psc_scopes.proofs.Keeping.{keeps_more, keeps_both, keeps_all, keeps_put, keeps_unput, lies_on, within_on, put_cases}
+use Rattle.psc_scopes.proofs.Keeping.{keeps_more, keeps_both, keeps_put, keeps_unput, lies_on, within_on, put_cases}
 
 or_right : (a b : Bool) → b ≡ true → (a || b) ≡ true
 or_right true b e = refl
@@ -205,12 +205,6 @@ module _ (nodes : List Node) (old lists : List (Vec ℕ Global)) (before bounds 
 
   pub walked : IsNarrowed nodes lists bounds place
   walked = record { keeps = walked_place }
-
--- the scope of all rigid variables asks for nothing
-pub narrowed_any : (nodes : List Node) (lists : List (Vec ℕ Global)) (bounds : List ℕ) (place : ℕ) → scope_at bounds place ≡ 0 → IsNarrowed nodes lists bounds place
-narrowed_any nodes lists bounds place e = record {
-  keeps = λ may v sol small left. keeps_all may (Lies lists (scope_at bounds place)) (λ r. inl e) (v place);
-}
 
 pub keeps_end : (may : ℕ → ℕ → Bool) (v : ℕ → Tree) (S : ℕ → Type 0) (at end : ℕ) → v at ≡ v end → Keeps may S (v at) → Keeps may S (v end)
 keeps_end may v S at end same h = subst (Keeps may S) same h

@@ -136,6 +136,7 @@ impl ScopeTable {
     pub fn has_exactly(&self, scope: u64, list: &[u64]) -> bool
         ensures list { result ≡ true → IsGivenAs self.now.lists.items scope list.now }
         ensures given { result ≡ true → scope ≡ 0 → ⊥ }
+        ensures other { result ≡ false → (scope ≡ 0 → ⊥) → IsGivenAs self.now.lists.items scope list.now → ⊥ }
     {
         match self.list(scope) {
             Some(own) => is_same_list(own.as_slice(), list),

@@ -4,8 +4,8 @@ use Rattle.std.specs.BTreeSet.{contains}
 use Rattle.std.specs.Ordering.{nat_cmp}
 use Rattle.psc_scopes.specs.Walking.{Looked, NotedKeep}
 use Rattle.psc_scopes.proofs.Scopes.{passed, beyond, given_on}
-use Rattle.psc_scopes.proofs.Keeping.{narrows_more}
-use Rattle.psc_scopes.proofs.Walking.{seen_new, looked_first, walked, narrowed_any, first_keeps, noted_none, noted_popped, noted_parts, all_keep_on, escaped}
+use Rattle.psc_scopes.proofs.Keeping.{narrows_more, narrowed_any}
+use Rattle.psc_scopes.proofs.Walking.{seen_new, looked_first, walked, first_keeps, noted_none, noted_popped, noted_parts, all_keep_on, escaped}
 use Rattle.psc_scopes.proofs.walk.narrow.Goals as goal
 
 pub returns-then-scope-eq0-clause-narrowed : goal.returns-then-scope-eq0-clause-narrowed
