@@ -120,7 +120,7 @@ impl State {
         let number = self.unknowns.len() as u64;
         self.unknowns.push(place)?;
         self.numbers.insert(place, number)?;
-        cover_places(&mut self.bounds, self.graph.nodes.len())?;
+        cover_places(&mut self.bounds, self.graph.nodes.as_slice().len())?;
         put_scope(&mut self.bounds, place, scope)?;
         Ok(number)
     }

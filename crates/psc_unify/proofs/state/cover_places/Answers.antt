@@ -1,4 +1,4 @@
-use Rattle.std.proofs.Common.{◌≡◌, ◌≤◌, length, get_or, ap, ◌∙◌, subst}
+use Rattle.std.proofs.Common.{get_or, ap, ◌∙◌}
 use Rattle.psc_unify.proofs.state.cover_places.Goals as goal
 
 pub returns-in-Ok-clause-exact : goal.returns-in-Ok-clause-exact

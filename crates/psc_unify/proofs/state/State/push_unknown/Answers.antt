@@ -16,4 +16,4 @@ pub returns-clause-scoped : goal.returns-clause-scoped
 returns-clause-scoped c = λ even.
     let long = ap length c.in_ok-place.ensures.pushed ∙ length-append c.args.self.now.graph.nodes.items (Free c.args.kind ∷ []) in
     scope_pushed c.args.self.now.bounds.scopes.items c.cover_places.new.bounds.scopes.items _ _ _ c.args.scope
-    (long ∙ ap (λ n. n + 1) (sym even)) (c.in_ok-place.ensures.last ∙ sym even) c.in_ok-cover_places.ensures.exact c.in_ok-cover_places.ensures.zeros c.in_ok-put_scope.ensures
+    (ap length c.as_slice.ensures.value ∙ long ∙ ap (λ n. n + 1) (sym even)) (c.in_ok-place.ensures.last ∙ sym even) c.in_ok-cover_places.ensures.exact c.in_ok-cover_places.ensures.zeros c.in_ok-put_scope.ensures
