@@ -95,9 +95,9 @@ module _ (nodes slice : List Node) (old new : List (Vec ℕ Global)) (before cov
       → (may : ℕ → ℕ → Bool) (v : ℕ → Tree) → AreScopes old before → Solves v nodes → AllKeep may old before v → ⊥
   escapes_covered h may v are sol all = h may v (are_covered are) (solves_slice v sol) (keep_covered may v all)
 
-  pub narrowed_covered : (writes all : List Write) → all ≡ writes → length nodes ≤ length covered → (AreScopes old covered → length slice ≤ length covered → AreNarrowed slice new after all (length all))
+  pub narrowed_covered : (writes all : List Write) → all ≡ writes → length slice ≤ length covered → (AreScopes old covered → length slice ≤ length covered → AreNarrowed slice new after all (length all))
       → AreScopes old before → AreNarrowed nodes new after writes (length writes)
   narrowed_covered writes all same covers h are =
       subst (λ (l : List Node). AreNarrowed l new after writes (length writes)) is
       (subst (λ (w : List Write). AreNarrowed slice new after w (length w)) same
-      (h (are_covered are) (subst (λ (l : List Node). length l ≤ length covered) (sym is) covers)))
+      (h (are_covered are) covers))

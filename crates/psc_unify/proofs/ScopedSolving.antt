@@ -6,20 +6,19 @@ use Rattle.std.specs.declared.vec.Vec.{Vec}
 use Rattle.std.specs.declared.alloc.Global.{Global}
 use Rattle.psc_text.specs.declared.names.Ident.{Ident}
 use Rattle.psc_type.specs.declared.ty.Ty.{Ty}
-use Rattle.psc_graph.specs.Tree.{Tree, Hole, size}
+use Rattle.psc_graph.specs.Tree.{Tree, size}
 use Rattle.psc_graph.specs.Model.{Solves}
 use Rattle.psc_graph.specs.General.{IsSolution}
-use Rattle.psc_graph.specs.declared.node.Node.TheVariants.{Free}
 use Rattle.psc_rows.specs.declared.graph.Graph.{Graph}
 use Rattle.psc_scopes.specs.Scope.{Holds, Lies}
 use Rattle.psc_scopes.specs.Keeping.{Keeps, scope_at, AllKeep, LeftKeep}
 use Rattle.psc_scopes.proofs.Keeping.{keeps_more}
 use Rattle.psc_unify.specs.declared.tables.Names.{Names}
 use Rattle.psc_unify.specs.Naming.{Naming}
-use Rattle.psc_unify.specs.Solved.{Fits, Continues, Values, IsSolutionOf, Stands}
-use Rattle.psc_unify.specs.Scoped.{IsNamed, IsScopedSolutionOf, IsAllowed, IsMostGeneralScoped, has, has_listed, may_take, KeepsScopes, HasNoneScoped, HasSome, GoesOn}
+use Rattle.psc_unify.specs.Solved.{Fits, Continues, Stands}
+use Rattle.psc_unify.specs.Scoped.{IsNamed, IsAllowed, IsMostGeneralScoped, has, has_listed, may_take, KeepsScopes, HasNoneScoped, HasSome, GoesOn}
 use Rattle.psc_unify.proofs.Naming.{fits_before}
-use Rattle.psc_unify.proofs.Small.{lt_same, none_some, some_same}
+use Rattle.psc_unify.proofs.Small.{lt_same}
 use Rattle.psc_unify.proofs.Solving.{values_of, most_general, most_solution}
 
 or_side : (a b : Bool) → (a || b) ≡ true → (a ≡ true) ⊎ (b ≡ true)

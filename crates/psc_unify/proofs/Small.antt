@@ -25,9 +25,6 @@ some_same x y e = cc
 pub nothing_below : (k n : ℕ) → k < n → n ≡ 0 → ⊥
 nothing_below k n h e = omega arith
 
-pub le_is : (n m k : ℕ) → n ≡ m → n ≤ k → m ≤ k
-le_is n m k e h = omega arith
-
 -- what follows from what an answer ensures
 pub on_ok : {T E P Q : Type 0} (r : Result T E) → (P → Q) → OnOk r P → OnOk r Q
 on_ok (Ok x) f h = f h

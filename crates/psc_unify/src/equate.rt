@@ -118,17 +118,12 @@ fn narrow_written(
     ensures keeps { OnOk result ((may : ℕ → ℕ → Bool) (v : ℕ → Tree) → AreScopes scopes.old.lists.items bounds.old.scopes.items → Solves v graph.now.nodes.items → AllKeep may scopes.old.lists.items bounds.old.scopes.items v → AllKeep may scopes.new.lists.items bounds.new.scopes.items v) }
     ensures escapes { result ≡ Err Stop.Clash → (may : ℕ → ℕ → Bool) (v : ℕ → Tree) → AreScopes scopes.old.lists.items bounds.old.scopes.items → Solves v graph.now.nodes.items → AllKeep may scopes.old.lists.items bounds.old.scopes.items v → ⊥ }
 {
-    match bounds.cover(graph.nodes.len()) {
+    let nodes = graph.nodes.as_slice();
+    match bounds.cover(nodes.len()) {
         Ok(()) => {}
         Err(_) => return Err(Stop::Memory),
     }
-    narrow_writes(
-        alloc,
-        graph.nodes.as_slice(),
-        graph.writes.as_slice(),
-        scopes,
-        bounds,
-    )
+    narrow_writes(alloc, nodes, graph.writes.as_slice(), scopes, bounds)
 }
 
 /// Whether the node is no rigid variable, or one of the first `count`.

@@ -1,4 +1,4 @@
-use Rattle.psc_unify.proofs.Narrowing.{narrowing_none, narrowing_more, narrowed_all}
+use Rattle.psc_unify.proofs.Narrowing.{narrowing_more, narrowed_all}
 use Rattle.psc_unify.proofs.equate.narrow_writes.Goals as goal
 
 pub returns-in-Err-clause-clash : goal.returns-in-Err-clause-clash

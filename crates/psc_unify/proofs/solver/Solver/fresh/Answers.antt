@@ -27,7 +27,7 @@ returns-clause-scoped c = λ kinds scopes eqs h.
       c.in_ok-kind.kind,
       scoped_by _ (kinds ++ c.in_ok-kind.kind ∷ []) (scopes ++ c.args.scope.now.rigid ∷ []) eqs h.solved.running
           (c.in_ok-number.ensures.stands kinds eqs (stands_named _ _ _ _ kinds eqs cont h.solved.stands))
-          (scopes_given _ _ _ _ _ _ _ _ _ _ _ _ scopes c.in_ok-kind.kind c.in_ok-bound.bound c.args.scope.now.rigid _ cont c.in_ok-number.ensures.names c.in_ok-number.ensures.scopes
+          (scopes_given _ _ _ _ _ c.args.self.now.state.scopes c.scope_number.new.scopes c.push_unknown.new.self.scopes _ _ _ _ scopes c.in_ok-kind.kind c.in_ok-bound.bound c.args.scope.now.rigid _ cont c.in_ok-number.ensures.names c.in_ok-number.ensures.scopes
           c.in_ok-number.ensures.pushed c.in_ok-number.ensures.placed (c.in_ok-number.ensures.scoped h.kept.covers) c.as_slice.ensures
           c.in_ok-bound.ensures.kept c.in_ok-bound.ensures.rise c.in_ok-bound.ensures.given h.solved.stands.inside h.kept),
     )
