@@ -1,5 +1,5 @@
 -- Values that keep to scopes, and scopes that become narrower.
-use Rattle.std.proofs.Common.{◌≡◌, ℕ, ◌+◌, ◌-◌, ◌<◌, ◌≤◌, Bool, List, [], ◌∷◌, ◌++◌, length, length-append, slice_get, slice_set, Some, zero, suc, ap, refl, sym, ◌∙◌, subst, ◌⊎◌, inl, inr, arith}
+use Rattle.std.proofs.Common.{◌≡◌, ℕ, ◌+◌, ◌-◌, ◌≤◌, Bool, List, [], ◌∷◌, ◌++◌, length, length-append, slice_get, slice_set, Some, zero, suc, ap, refl, sym, ◌∙◌, subst, ◌⊎◌, inl, inr, arith}
 use Rattle.std.proofs.lemmas.Bool.Decides.{leb_tells}
 use Rattle.std.proofs.lemmas.List.{length-set}
 use Rattle.std.specs.declared.vec.Vec.{Vec}
@@ -7,12 +7,11 @@ use Rattle.std.specs.declared.alloc.Global.{Global}
 use Rattle.psc_graph.specs.Tree.{Tree, Hole, TAtom, TJoin, TField, put, size}
 use Rattle.psc_graph.specs.Model.{Solves}
 use Rattle.psc_graph.specs.declared.node.Node.{Node}
-use Rattle.psc_graph.specs.declared.node.Node.TheVariants.{Free}
 use Rattle.psc_graph.specs.declared.node.Leaf.{Leaf}
 use Rattle.psc_graph.specs.declared.node.Leaf.TheVariants.{Rigid, Constant, Bound, NoArgument}
 use Rattle.psc_graph.proofs.Put.{put_at, put_past}
 use Rattle.psc_scopes.specs.Scope.{Holds, AllRise, Lies, IsWithin, Extends}
-use Rattle.psc_scopes.specs.Keeping.{KeepsLeaf, Keeps, scope_at, IsScope, AreScopes, IsLeft, Narrows, AllKeep, SmallKeep, LeftKeep, IsNarrowed}
+use Rattle.psc_scopes.specs.Keeping.{KeepsLeaf, Keeps, scope_at, IsScope, AreScopes, IsLeft, Narrows, SmallKeep, LeftKeep, IsNarrowed}
 
 -- what keeps to a set keeps to a wider one
 module _ (may : ℕ → ℕ → Bool) (S T : ℕ → Type 0) (h : (r : ℕ) → S r → T r) where
@@ -111,25 +110,6 @@ narrows_same nodes lists before after are same le = record {
   same = λ q. inl (same q);
 }
 
-pub narrows_none : (nodes : List Node) (lists : List (Vec ℕ Global)) (bounds : List ℕ) → AreScopes lists bounds → Narrows nodes lists lists bounds bounds
-narrows_none nodes lists bounds are = narrows_same nodes lists bounds bounds are (λ q. refl) (omega arith)
-
--- a scope more, or some
-pub narrows_extends : (nodes : List Node) (old new : List (Vec ℕ Global)) (bounds : List ℕ) → AreScopes old bounds → Extends old new → AllRise new → Narrows nodes old new bounds bounds
-narrows_extends nodes old new bounds are more rise = record {
-  scopes = record { rise = rise; each = λ q. scope_on old new more (scope_at bounds q) (are.each q) };
-  extends = more;
-  longer = omega arith;
-  within = λ q. within_refl new (scope_at bounds q) (scope_at bounds q) refl;
-  same = λ q. inl refl;
-}
-
--- values keep to scopes that have not changed, in a table that extends the one before
-pub all_keep_more : (may : ℕ → ℕ → Bool) (v : ℕ → Tree) (old new : List (Vec ℕ Global)) (before after : List ℕ) → Extends old new → ((q : ℕ) → scope_at after q ≡ scope_at before q) → AllKeep may old before v → AllKeep may new after v
-all_keep_more may v old new before after more same all = record {
-  each = λ q. subst (λ s. Keeps may (Lies new s) (v q)) (sym (same q)) (keeps_more may (Lies old (scope_at before q)) (Lies new (scope_at before q)) (lies_on old new more (scope_at before q)) (v q) (all.each q));
-}
-
 -- narrower twice
 module _ (nodes : List Node) (A B C : List (Vec ℕ Global)) (a b c : List ℕ) (one : Narrows nodes A B a b) (two : Narrows nodes B C b c) where
   within_both : (q : ℕ) → IsWithin C (scope_at c q) (scope_at a q)
@@ -180,44 +160,6 @@ module _ (nodes : List Node) (lists : List (Vec ℕ Global)) (bounds : List ℕ)
   -- the scope of all rigid variables asks for nothing
   pub narrowed_any : (place : ℕ) → scope_at bounds place ≡ 0 → IsNarrowed nodes lists bounds place
   narrowed_any place e = record { keeps = λ may v sol small left. keeps_all may (Lies lists (scope_at bounds place)) (λ r. inl e) (v place) }
-
-  pub narrowed_left : (place : ℕ) → IsLeft nodes place → IsNarrowed nodes lists bounds place
-  narrowed_left place free = record { keeps = λ may v sol small left. left.each place free.0 free.1 (omega arith) }
-
-  small_less : (may : ℕ → ℕ → Bool) (v : ℕ → Tree) (n m : ℕ) → m ≤ n → SmallKeep may lists bounds v n → SmallKeep may lists bounds v m
-  small_less may v n m le small = record { each = λ q lt. small.each q (omega arith) }
-
-  left_less : (may : ℕ → ℕ → Bool) (v : ℕ → Tree) (n m : ℕ) → m ≤ n → LeftKeep may nodes lists bounds v n → LeftKeep may nodes lists bounds v m
-  left_less may v n m le left = record { each = λ k s e lt. left.each k s e (omega arith) }
-
-  -- where all places are narrowed, the values keep to their scopes as soon as those of unknowns that are left do
-  module _ (all : (q : ℕ) → IsNarrowed nodes lists bounds q) (may : ℕ → ℕ → Bool) (v : ℕ → Tree) (sol : Solves v nodes)
-      (free : (k s : ℕ) → slice_get nodes k ≡ Some (Free s) → Keeps may (Lies lists (scope_at bounds k)) (v k)) where
-    small_all : (n q : ℕ) → size (v q) < n → Keeps may (Lies lists (scope_at bounds q)) (v q)
-    small_all zero q lt = absurd (omega arith)
-    small_all (suc n) q lt =
-        (all q).keeps may v sol
-        (record { each = λ p less. small_all n p (omega arith) })
-        (record { each = λ k s e le. free k s e })
-
-    pub all_narrowed : AllKeep may lists bounds v
-    all_narrowed = record { each = λ q. small_all (suc (size (v q))) q (omega arith) }
-
--- unknowns were bound: what was narrowed is so still, where each unknown that is no longer left is narrowed too
-module _ (old new : List Node) (lists : List (Vec ℕ Global)) (bounds : List ℕ) (back : (v : ℕ → Tree) → Solves v new → Solves v old)
-    (bound : (k s : ℕ) → slice_get old k ≡ Some (Free s) → (slice_get new k ≡ Some (Free s)) ⊎ IsNarrowed new lists bounds k) where
-  left_bound : (may : ℕ → ℕ → Bool) (v : ℕ → Tree) (n : ℕ) → Solves v new → SmallKeep may lists bounds v n → LeftKeep may new lists bounds v n → LeftKeep may old lists bounds v n
-  left_bound may v n sol small left = record {
-    each = λ k s e le. elim (bound k s e) [
-      | inl f ↦ left.each k s f le
-      | inr is ↦ is.keeps may v sol (small_less new lists bounds may v n (size (v k)) le small) (left_less new lists bounds may v n (size (v k)) le left)
-    ];
-  }
-
-  pub narrowed_bound : (place : ℕ) → IsNarrowed old lists bounds place → IsNarrowed new lists bounds place
-  narrowed_bound place is = record {
-    keeps = λ may v sol small left. is.keeps may v (back v sol) small (left_bound may v (size (v place)) sol small left);
-  }
 
 -- a scope is written at an unknown that is left
 set_cases : (xs : List ℕ) (i y q : ℕ) → (scope_at (slice_set xs i y) q ≡ scope_at xs q) ⊎ ((q ≡ i) × (scope_at (slice_set xs i y) q ≡ y))

@@ -35,9 +35,6 @@ seen_more seen next end q is e = is ∙ or_right (eqb q end) (seen q) e
 pub seen_new : (seen next : ℕ → Bool) (end : ℕ) → next end ≡ (eqb end end || seen end) → next end ≡ true
 seen_new seen next end is = is ∙ rw (eq-eqb end end refl) refl
 
-pub meeting_none : (lists : List (Vec ℕ Global)) (scope at : ℕ) (bounds : List ℕ) → Meeting lists scope at bounds bounds
-meeting_none lists scope at bounds = record { each = λ q. inl refl }
-
 pub meeting_put : (lists : List (Vec ℕ Global)) (scope at both : ℕ) (before after : List ℕ) → after ≡ slice_set before at both
     → ((r : ℕ) → Lies lists (scope_at before at) r → Lies lists scope r → Lies lists both r) → Meeting lists scope at before after
 meeting_put lists scope at both before after is h = record {

@@ -1,5 +1,5 @@
 -- The scopes of all that were unknowns are narrowed, one after the other.
-use Rattle.std.proofs.Common.{◌≡◌, ℕ, ◌+◌, ◌<◌, ◌≤◌, Bool, List, length, Some, slice_get, ap, refl, sym, ◌∙◌, subst, inl, inr, arith}
+use Rattle.std.proofs.Common.{◌≡◌, ℕ, ◌+◌, ◌<◌, ◌≤◌, Bool, List, length, Some, slice_get, ap, sym, ◌∙◌, subst, inl, inr, arith}
 use Rattle.std.specs.declared.vec.Vec.{Vec}
 use Rattle.std.specs.declared.alloc.Global.{Global}
 use Rattle.psc_graph.specs.Tree.{Tree}
@@ -10,7 +10,7 @@ use Rattle.psc_rows.specs.declared.graph.Write.{Write}
 use Rattle.psc_scopes.specs.Scope.{AreOpen, Lies}
 use Rattle.psc_scopes.specs.Keeping.{Keeps, scope_at, AreScopes, Narrows, AllKeep, IsNarrowed}
 use Rattle.psc_scopes.proofs.Scopes.{nat_side}
-use Rattle.psc_scopes.proofs.Keeping.{narrows_same, narrows_none, narrows_more, narrowed_on}
+use Rattle.psc_scopes.proofs.Keeping.{narrows_same, narrows_more, narrowed_on}
 use Rattle.psc_unify.specs.Scoped.{AreNarrowed}
 use Rattle.psc_unify.proofs.Small.{some_same}
 
@@ -21,18 +21,6 @@ pub record IsNarrowing (nodes : List Node) (writes : List Write) (old new : List
   pub narrows : AreScopes old before → Narrows nodes old new before after
   pub narrowed : AreScopes old before → length nodes ≤ length before → AreNarrowed nodes new after writes n
   pub keeps : (may : ℕ → ℕ → Bool) (v : ℕ → Tree) → AreScopes old before → Solves v nodes → AllKeep may old before v → AllKeep may new after v
-
-none_first : {B : Type 0} (i : ℕ) → i < 0 → B
-none_first i lt = absurd (omega arith)
-
-pub narrowing_none : (nodes : List Node) (writes : List Write) (lists : List (Vec ℕ Global)) (bounds : List ℕ) → IsNarrowing nodes writes lists lists bounds bounds 0
-narrowing_none nodes writes lists bounds = record {
-  opened = λ m wide. wide;
-  long = refl;
-  narrows = λ are. narrows_none nodes lists bounds are;
-  narrowed = λ are covers i s w lt. none_first i lt;
-  keeps = λ may v are sol all. all;
-}
 
 le_same : (a b c : ℕ) → a ≤ b → c ≡ b → a ≤ c
 le_same a b c le is = omega arith
