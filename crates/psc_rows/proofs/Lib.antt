@@ -8,3 +8,4 @@ pub mod TailLemmas
 pub mod FormLemmas
 pub mod StepLemmas
 pub mod BoundLemmas
+pub mod WriteLemmas

@@ -1,3 +1,4 @@
 pub mod Row
 pub mod Bounds
 pub mod Steps
+pub mod Writes

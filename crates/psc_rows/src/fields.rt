@@ -4,6 +4,7 @@ ghost use Rattle.psc_graph.specs.Tree.{Tree};
 ghost use Rattle.psc_graph.specs.Model.{Solves};
 ghost use Rattle.psc_graph.specs.General.{Grows, IsReady};
 ghost use Rattle.psc_rows.specs.Row.{row_of, IsTail, HeadsBelow};
+ghost use Rattle.psc_rows.specs.Writes.{Remembers};
 
 use crate::graph::Graph;
 use psc_graph::{Node, Stop, find};
@@ -95,6 +96,7 @@ pub fn push_row(graph: &mut Graph, fields: &[Field], tail: usize) -> Result<usiz
     ensures grows { OnOk result (Grows graph.old.nodes.items graph.new.nodes.items) }
     ensures ready { OnOk result (IsReady graph.old.nodes.items graph.old.kinds.items → IsReady graph.new.nodes.items graph.new.kinds.items) }
     ensures value { IfOk result (λ r. (v : ℕ → Tree) → Solves v graph.new.nodes.items → v r ≡ row_of v fields.now (v tail)) }
+    ensures remembers { OnOk result (Remembers graph.old graph.new) }
     ensures clash { result ≡ Err Stop.Clash → ⊥ }
 {
     let mut place = tail;

@@ -44,6 +44,8 @@ fn is_inside_graph(nodes: &[Node], node: Node) -> bool
 }
 
 impl Graph {
+    ghost use Rattle.psc_rows.specs.Writes.{Remembers};
+
     /// The graph without nodes.
     pub fn new(alloc: Global) -> Graph
         ensures nodes { result.nodes.items ≡ [] }
@@ -64,6 +66,7 @@ impl Graph {
         ensures place { IfOk result (λ r. slice_get self.new.nodes.items r ≡ Some node) }
         ensures last { IfOk result (λ r. r ≡ length self.old.nodes.items) }
         ensures pushed { OnOk result (self.new.nodes.items ≡ self.old.nodes.items ++ node ∷ []) }
+        ensures remembers { OnOk result (Remembers self.old self.new) }
         ensures clash { result ≡ Err Stop.Clash → ⊥ }
     {
         if !is_inside_graph(self.nodes.as_slice(), node) {
@@ -85,6 +88,8 @@ impl Graph {
     pub fn remember(&mut self, place: usize, node: Node) -> Result<(), Stop>
         ensures nodes { self.new.nodes ≡ self.old.nodes }
         ensures kinds { self.new.kinds ≡ self.old.kinds }
+        ensures writes { OnOk result (self.new.writes.items ≡ self.old.writes.items ++ (record { place = place; node = node }) ∷ []) }
+        ensures remembers { OnOk result (Remembers self.old self.new) }
         ensures clash { result ≡ Err Stop.Clash → ⊥ }
     {
         match self.writes.push(Write { place, node }) {
@@ -123,6 +128,7 @@ impl Graph {
         requires apart { unknown ≡ to → ⊥ }
         requires ends { (j : ℕ) → node ≡ Node.Link j → ⊥ }
         ensures steps { OnOk result ((work : List Task) → IsReady self.old.nodes.items self.old.kinds.items → AreInside (length self.old.nodes.items) work → Steps (λ v. v unknown ≡ v to) self.old.nodes.items self.new.nodes.items self.new.kinds.items work work) }
+        ensures remembers { OnOk result (Remembers self.old self.new) }
         ensures clash { result ≡ Err Stop.Clash → IsReady self.old.nodes.items self.old.kinds.items → (v : ℕ → Tree) → IsSolution v self.old.nodes.items → v unknown ≡ v to → ⊥ }
     {
         if self.is_part(alloc, unknown, to, node)? {
@@ -148,6 +154,7 @@ impl Graph {
     /// Puts one node in the place of another, if they are alike.
     pub fn merge(&mut self, a: usize, b: usize) -> Result<(), Stop>
         ensures steps { OnOk result ((work : List Task) → IsReady self.old.nodes.items self.old.kinds.items → AreInside (length self.old.nodes.items) work → Steps (λ v. Unit {0}) self.old.nodes.items self.new.nodes.items self.new.kinds.items work work) }
+        ensures remembers { OnOk result (Remembers self.old self.new) }
         ensures clash { result ≡ Err Stop.Clash → ⊥ }
     {
         let Some(node) = node_at(self.nodes.as_slice(), a) else {
@@ -161,6 +168,7 @@ impl Graph {
     /// Lets the link at a place lead on to where the link behind it leads.
     pub fn skip(&mut self, at: usize) -> Result<(), Stop>
         ensures steps { OnOk result ((work : List Task) → IsReady self.old.nodes.items self.old.kinds.items → AreInside (length self.old.nodes.items) work → Steps (λ v. Unit {0}) self.old.nodes.items self.new.nodes.items self.new.kinds.items work work) }
+        ensures remembers { OnOk result (Remembers self.old self.new) }
         ensures clash { result ≡ Err Stop.Clash → ⊥ }
     {
         let Some(node) = node_at(self.nodes.as_slice(), at) else {

@@ -5,6 +5,7 @@ ghost use Rattle.psc_graph.specs.Model.{Solves};
 ghost use Rattle.psc_graph.specs.General.{IsSolution, IsReady};
 ghost use Rattle.psc_rows.specs.Row.{row_of, Rising, Apart, IsTail, HeadsBelow, tasks_of};
 ghost use Rattle.psc_rows.specs.Steps.{Steps, AreInside};
+ghost use Rattle.psc_rows.specs.Writes.{Remembers};
 
 use crate::align::{align, sort_fields};
 use crate::fields::{Field, Row, are_heads_inside, is_without_fields, push_row, read_row};
@@ -57,6 +58,7 @@ pub fn relate_rows(
     right: usize,
 ) -> Result<(), Stop>
     ensures steps { OnOk result (IsReady graph.old.nodes.items graph.old.kinds.items → AreInside (length graph.old.nodes.items) work.old.items → Steps (λ v. v left ≡ v right) graph.old.nodes.items graph.new.nodes.items graph.new.kinds.items work.old.items work.new.items) }
+    ensures remembers { OnOk result (Remembers graph.old graph.new) }
     ensures clash { result ≡ Err Stop.Clash → (v : ℕ → Tree) → IsSolution v graph.old.nodes.items → v left ≡ v right → ⊥ }
 {
     let one = sorted_row(alloc, graph.nodes.as_slice(), left)?;
@@ -100,6 +102,7 @@ fn extend_tail(
     requires tail_inside { tail < length graph.old.nodes.items }
     requires rest_inside { rest < length graph.old.nodes.items }
     ensures steps { OnOk result (IsReady graph.old.nodes.items graph.old.kinds.items → AreInside (length graph.old.nodes.items) work.old.items → Steps (λ v. v tail ≡ row_of v fields.now (v rest)) graph.old.nodes.items graph.new.nodes.items graph.new.kinds.items work.old.items work.new.items) }
+    ensures remembers { OnOk result (Remembers graph.old graph.new) }
     ensures clash { result ≡ Err Stop.Clash → ⊥ }
 {
     let row = push_row(graph, fields, rest)?;
@@ -122,6 +125,7 @@ fn share_tail(
     requires left_open { slice_get graph.old.nodes.items left ≡ Some (Node.Free 0) }
     requires right_inside { right < length graph.old.nodes.items }
     ensures steps { OnOk result (IsReady graph.old.nodes.items graph.old.kinds.items → AreInside (length graph.old.nodes.items) work.old.items → Steps (λ v. row_of v one.now (v left) ≡ row_of v two.now (v right)) graph.old.nodes.items graph.new.nodes.items graph.new.kinds.items work.old.items work.new.items) }
+    ensures remembers { OnOk result (Remembers graph.old graph.new) }
     ensures clash { result ≡ Err Stop.Clash → ⊥ }
 {
     let rest = graph.push(Node::Free(ROW))?;
@@ -145,6 +149,7 @@ fn relate_tails(
     requires left_tail { IsTail graph.old.nodes.items left }
     requires right_tail { IsTail graph.old.nodes.items right }
     ensures steps { OnOk result (IsReady graph.old.nodes.items graph.old.kinds.items → AreInside (length graph.old.nodes.items) work.old.items → Steps (λ v. row_of v one.now (v left) ≡ row_of v two.now (v right)) graph.old.nodes.items graph.new.nodes.items graph.new.kinds.items work.old.items work.new.items) }
+    ensures remembers { OnOk result (Remembers graph.old graph.new) }
     ensures clash { result ≡ Err Stop.Clash → (v : ℕ → Tree) → IsSolution v graph.old.nodes.items → row_of v one.now (v left) ≡ row_of v two.now (v right) → ⊥ }
 {
     if !are_heads_inside(graph.nodes.as_slice(), one) {

@@ -4,6 +4,7 @@ ghost use Rattle.psc_graph.specs.Tree.{Tree};
 ghost use Rattle.psc_graph.specs.Model.{Holds};
 ghost use Rattle.psc_graph.specs.General.{IsSolution, IsReady};
 ghost use Rattle.psc_rows.specs.Steps.{Steps, AreInside, IsTaskInside};
+ghost use Rattle.psc_rows.specs.Writes.{Remembers};
 
 use crate::graph::{Graph, ask};
 use crate::rows::relate_rows;
@@ -40,6 +41,7 @@ fn relate_leaves(graph: &mut Graph, left: usize, right: usize, x: Leaf, y: Leaf)
     requires at_left { slice_get graph.old.nodes.items left ≡ Some (Node.Atom x) }
     requires at_right { slice_get graph.old.nodes.items right ≡ Some (Node.Atom y) }
     ensures steps { OnOk result ((work : List Task) → IsReady graph.old.nodes.items graph.old.kinds.items → AreInside (length graph.old.nodes.items) work → Steps (λ v. v left ≡ v right) graph.old.nodes.items graph.new.nodes.items graph.new.kinds.items work work) }
+    ensures remembers { OnOk result (Remembers graph.old graph.new) }
     ensures clash { result ≡ Err Stop.Clash → (v : ℕ → Tree) → IsSolution v graph.old.nodes.items → v left ≡ v right → ⊥ }
 {
     if !is_same_leaf(x, y) {
@@ -67,6 +69,7 @@ fn relate_formed(
     requires free { (k : ℕ) → y ≡ Node.Free k → ⊥ }
     requires link { (j : ℕ) → y ≡ Node.Link j → ⊥ }
     ensures steps { OnOk result (IsReady graph.old.nodes.items graph.old.kinds.items → AreInside (length graph.old.nodes.items) work.old.items → Steps (λ v. v left ≡ v right) graph.old.nodes.items graph.new.nodes.items graph.new.kinds.items work.old.items work.new.items) }
+    ensures remembers { OnOk result (Remembers graph.old graph.new) }
     ensures clash { result ≡ Err Stop.Clash → (v : ℕ → Tree) → IsSolution v graph.old.nodes.items → v left ≡ v right → ⊥ }
 {
     match x {
@@ -112,6 +115,7 @@ fn relate_solid(
     requires left_ends { (j : ℕ) → x ≡ Node.Link j → ⊥ }
     requires right_ends { (j : ℕ) → y ≡ Node.Link j → ⊥ }
     ensures steps { OnOk result (IsReady graph.old.nodes.items graph.old.kinds.items → AreInside (length graph.old.nodes.items) work.old.items → Steps (λ v. v left ≡ v right) graph.old.nodes.items graph.new.nodes.items graph.new.kinds.items work.old.items work.new.items) }
+    ensures remembers { OnOk result (Remembers graph.old graph.new) }
     ensures clash { result ≡ Err Stop.Clash → IsReady graph.old.nodes.items graph.old.kinds.items → (v : ℕ → Tree) → IsSolution v graph.old.nodes.items → v left ≡ v right → ⊥ }
 {
     match y {
@@ -138,6 +142,7 @@ fn relate_ends(
     requires left_ends { (j : ℕ) → x ≡ Node.Link j → ⊥ }
     requires right_ends { (j : ℕ) → y ≡ Node.Link j → ⊥ }
     ensures steps { OnOk result (IsReady graph.old.nodes.items graph.old.kinds.items → AreInside (length graph.old.nodes.items) work.old.items → Steps (λ v. v left ≡ v right) graph.old.nodes.items graph.new.nodes.items graph.new.kinds.items work.old.items work.new.items) }
+    ensures remembers { OnOk result (Remembers graph.old graph.new) }
     ensures clash { result ≡ Err Stop.Clash → IsReady graph.old.nodes.items graph.old.kinds.items → (v : ℕ → Tree) → IsSolution v graph.old.nodes.items → v left ≡ v right → ⊥ }
 {
     if left == right {
@@ -161,6 +166,7 @@ fn step(
     b: usize,
 ) -> Result<(), Stop>
     ensures steps { OnOk result (IsReady graph.old.nodes.items graph.old.kinds.items → AreInside (length graph.old.nodes.items) work.old.items → Steps (λ v. v a ≡ v b) graph.old.nodes.items graph.new.nodes.items graph.new.kinds.items work.old.items work.new.items) }
+    ensures remembers { OnOk result (Remembers graph.old graph.new) }
     ensures clash { result ≡ Err Stop.Clash → IsReady graph.old.nodes.items graph.old.kinds.items → (v : ℕ → Tree) → IsSolution v graph.old.nodes.items → v a ≡ v b → ⊥ }
 {
     let (left, x) = find(graph.nodes.as_slice(), a)?;
@@ -173,6 +179,7 @@ fn step(
 
 fn perform(alloc: Global, graph: &mut Graph, work: &mut Vec<Task>, task: Task) -> Result<(), Stop>
     ensures steps { OnOk result (IsReady graph.old.nodes.items graph.old.kinds.items → AreInside (length graph.old.nodes.items) work.old.items → Steps (λ v. Holds v task) graph.old.nodes.items graph.new.nodes.items graph.new.kinds.items work.old.items work.new.items) }
+    ensures remembers { OnOk result (Remembers graph.old graph.new) }
     ensures clash { result ≡ Err Stop.Clash → IsReady graph.old.nodes.items graph.old.kinds.items → (v : ℕ → Tree) → IsSolution v graph.old.nodes.items → Holds v task → ⊥ }
 {
     match task {
@@ -190,6 +197,7 @@ fn perform(alloc: Global, graph: &mut Graph, work: &mut Vec<Task>, task: Task) -
 /// Lets the links from a place on lead further, so that the next walk over them is shorter.
 fn shorten(graph: &mut Graph, at: usize) -> Result<(), Stop>
     ensures steps { OnOk result ((work : List Task) → IsReady graph.old.nodes.items graph.old.kinds.items → AreInside (length graph.old.nodes.items) work → Steps (λ v. Unit {0}) graph.old.nodes.items graph.new.nodes.items graph.new.kinds.items work work) }
+    ensures remembers { OnOk result (Remembers graph.old graph.new) }
     ensures clash { result ≡ Err Stop.Clash → ⊥ }
 {
     let mut place = at;
@@ -209,6 +217,7 @@ fn shorten(graph: &mut Graph, at: usize) -> Result<(), Stop>
 /// Shortens the links from both sides of the task that was added last.
 fn shorten_last(graph: &mut Graph, work: &[Task]) -> Result<(), Stop>
     ensures steps { OnOk result ((tasks : List Task) → IsReady graph.old.nodes.items graph.old.kinds.items → AreInside (length graph.old.nodes.items) tasks → Steps (λ v. Unit {0}) graph.old.nodes.items graph.new.nodes.items graph.new.kinds.items tasks tasks) }
+    ensures remembers { OnOk result (Remembers graph.old graph.new) }
     ensures clash { result ≡ Err Stop.Clash → ⊥ }
 {
     match work.last().copied() {
@@ -224,6 +233,7 @@ fn shorten_last(graph: &mut Graph, work: &[Task]) -> Result<(), Stop>
 /// Makes two nodes equal, exactly where a solution of the graph does.
 pub fn make_equal(alloc: Global, graph: &mut Graph, a: usize, b: usize) -> Result<(), Stop>
     ensures steps { OnOk result (IsReady graph.old.nodes.items graph.old.kinds.items → Steps (λ v. v a ≡ v b) graph.old.nodes.items graph.new.nodes.items graph.new.kinds.items [] []) }
+    ensures remembers { OnOk result (Remembers graph.old graph.new) }
     ensures clash { result ≡ Err Stop.Clash → IsReady graph.old.nodes.items graph.old.kinds.items → (v : ℕ → Tree) → IsSolution v graph.old.nodes.items → v a ≡ v b → ⊥ }
 {
     let mut work = Vec::new(alloc);

@@ -1,2 +1,4 @@
 pub mod Scopes
 pub mod Undoing
+pub mod Keeping
+pub mod Walking

@@ -11,7 +11,7 @@ use Rattle.psc_graph.proofs.Writes.{before_push, after_push, pushed}
 use Rattle.psc_graph.specs.declared.node.Node.{Node}
 use Rattle.psc_graph.specs.declared.node.Node.TheVariants.{Atom}
 use Rattle.psc_graph.specs.declared.node.Leaf.TheVariants.{Rigid}
-use Rattle.psc_scopes.specs.Scope.{Holds, HoldsBelow, Rises, AllRise, AreOpen, IsGiven, HasBeyond, Lies, IsWithin, Extends}
+use Rattle.psc_scopes.specs.Scope.{Holds, HoldsBelow, Rises, AllRise, AreOpen, IsGiven, IsGivenAs, HasBeyond, Lies, IsWithin, Extends}
 
 -- what a search does not find is not in a list that rises
 pub not_found : (xs : List ℕ) (x : ℕ) (r : Result ℕ ℕ) (b : Bool) → b ≡ is_ok r → b ≡ false → IsBinarySearchResult (λ y. nat_cmp y x) xs r → Rises xs → Holds xs x → ⊥
@@ -76,6 +76,12 @@ module _ (lists : List (Vec ℕ Global)) where
 
   none_some : (x : Vec ℕ Global) → None ≡ Some x → ⊥
   none_some x e = cc
+
+  pub not_given : (scope : ℕ) (list : List ℕ) → slice_get lists (scope - 1) ≡ None → IsGivenAs lists scope list → ⊥
+  not_given scope list none given = none_some given.0 (sym none ∙ given.1)
+
+  pub given_list : (scope : ℕ) (list : List ℕ) (own : Vec ℕ Global) → slice_get lists (scope - 1) ≡ Some own → IsGivenAs lists scope list → own.items ≡ list
+  given_list scope list own at given = ap (λ (l : Vec ℕ Global). l.items) (some_same own given.0 (sym at ∙ given.1)) ∙ given.2
 
   pub not_listed : (scope r : ℕ) → (scope ≡ 0 → ⊥) → slice_get lists (scope - 1) ≡ None → Lies lists scope r → ⊥
   not_listed scope r other none lies = elim lies [ inl p ↦ other p | inr p ↦ none_some p.0 (sym none ∙ p.1) ]
@@ -167,30 +173,29 @@ module _ (old left : List ℕ) (i r : ℕ) (at : Some r ≡ slice_get left i) (u
   pub gathers_more : (new : List ℕ) → new ≡ old ++ r ∷ [] → Gathers new left (i + 1)
   gathers_more new is = subst (λ l. Gathers l left (i + 1)) (sym is) (record { rise = more_rise; below = more_below })
 
--- of the first i of a list, those below n are in another one
-abbrev pub FirstKept : List ℕ → List ℕ → ℕ → ℕ → Type 0
-FirstKept left common i n = (k : ℕ) → k < i → k < length left → get_or left k 0 < n → Holds common (get_or left k 0)
+-- of the first i of a list, those that a second one has are in a third one
+abbrev pub FirstKept : List ℕ → List ℕ → List ℕ → ℕ → Type 0
+FirstKept left right common i = (k : ℕ) → k < i → k < length left → Holds right (get_or left k 0) → Holds common (get_or left k 0)
 
-pub kept_none : (left common : List ℕ) (n : ℕ) → FirstKept left common 0 n
-kept_none left common n k lt inside low = absurd (omega arith)
+pub kept_none : (left right common : List ℕ) → FirstKept left right common 0
+kept_none left right common k lt inside has = absurd (omega arith)
 
-pub kept_more : (left old new : List ℕ) (i r n : ℕ) → Some r ≡ slice_get left i → new ≡ old ++ r ∷ [] → FirstKept left old i n → FirstKept left new (i + 1) n
-kept_more left old new i r n at is h k lt inside low = elim (nat_side k i lt) [
-  | inl p ↦ subst (λ l. Holds l (get_or left k 0)) (sym is) (holds_before old r (get_or left k 0) (h k p inside low))
+pub kept_more : (left right old new : List ℕ) (i r : ℕ) → Some r ≡ slice_get left i → new ≡ old ++ r ∷ [] → FirstKept left right old i → FirstKept left right new (i + 1)
+kept_more left right old new i r at is h k lt inside has = elim (nat_side k i lt) [
+  | inl p ↦ subst (λ l. Holds l (get_or left k 0)) (sym is) (holds_before old r (get_or left k 0) (h k p inside has))
   | inr p ↦ subst (λ l. Holds l (get_or left k 0)) (sym is) (subst (Holds (old ++ r ∷ [])) (sym (ap (λ j. get_or left j 0) p ∙ get_or_from_slice_get left i r 0 (sym at))) (holds_last old r))
 ]
 
-pub kept_past : (left right common : List ℕ) (i r n : ℕ) → Some r ≡ slice_get left i → (Holds right r → ⊥) → HoldsBelow right n → FirstKept left common i n → FirstKept left common (i + 1) n
-kept_past left right common i r n at absent below h k lt inside low = elim (nat_side k i lt) [
-  | inl p ↦ h k p inside low
-  | inr p ↦ (let is : get_or left k 0 ≡ r = ap (λ j. get_or left j 0) p ∙ get_or_from_slice_get left i r 0 (sym at) in absurd (absent (below r (rw (← is) low))))
+pub kept_past : (left right common : List ℕ) (i r : ℕ) → Some r ≡ slice_get left i → (Holds right r → ⊥) → FirstKept left right common i → FirstKept left right common (i + 1)
+kept_past left right common i r at absent h k lt inside has = elim (nat_side k i lt) [
+  | inl p ↦ h k p inside has
+  | inr p ↦ (let is : get_or left k 0 ≡ r = ap (λ j. get_or left j 0) p ∙ get_or_from_slice_get left i r 0 (sym at) in absurd (absent (subst (Holds right) is has)))
 ]
 
-pub kept_all : (left common : List ℕ) (i n : ℕ) → length left ≤ i → FirstKept left common i n → HoldsBelow left n → HoldsBelow common n
-kept_all left common i n past h below r low =
-    let at = below r low in
+pub kept_all : (left right common : List ℕ) (i : ℕ) → length left ≤ i → FirstKept left right common i → (r : ℕ) → Holds left r → Holds right r → Holds common r
+kept_all left right common i past h r at has =
     let lt : at.0 < length left = at.1 in
-    subst (Holds common) at.2 (h at.0 (omega arith) lt (rw at.2 low))
+    subst (Holds common) at.2 (h at.0 (omega arith) lt (subst (Holds right) (sym at.2) has))
 
 -- a scope more
 pub open_push : (lists : List (Vec ℕ Global)) (list : Vec ℕ Global) (n : ℕ) → AreOpen lists n → Rises list.items → HoldsBelow list.items n → AreOpen (lists ++ list ∷ []) n
@@ -204,6 +209,25 @@ open_push lists list n wide up all = record {
     | inr p ↦ wide.all i l p
   ];
 }
+
+pub rise_push : (lists : List (Vec ℕ Global)) (list : Vec ℕ Global) → AllRise lists → Rises list.items → AllRise (lists ++ list ∷ [])
+rise_push lists list rise up i l e = elim (after_push lists list i l e) [
+  | inl p ↦ subst (λ (v : Vec ℕ Global). Rises v.items) (sym p.1) up
+  | inr p ↦ rise i l p
+]
+
+-- what lies in two scopes lies in a new one that has what is in both lists
+pub in_both : (old new : List (Vec ℕ Global)) (scope left right r : ℕ) (common one two : Vec ℕ Global) → Extends old new → slice_get new (scope - 1) ≡ Some common
+    → (left ≡ 0 → ⊥) → slice_get old (left - 1) ≡ Some one → (right ≡ 0 → ⊥) → slice_get old (right - 1) ≡ Some two
+    → (Holds one.items r → Holds two.items r → Holds common.items r) → Lies new left r → Lies new right r → Lies new scope r
+in_both old new scope left right r common one two more at other_left at_left other_right at_right h in_left in_right =
+    in_list new scope r common at (h (of left one other_left at_left in_left) (of right two other_right at_right in_right))
+  where
+    of : (s : ℕ) (own : Vec ℕ Global) → (s ≡ 0 → ⊥) → slice_get old (s - 1) ≡ Some own → Lies new s r → Holds own.items r
+    of s own other there lies = elim lies [
+      | inl p ↦ absurd (other p)
+      | inr p ↦ subst (λ (l : Vec ℕ Global). Holds l.items r) (some_same new p.0 own (sym p.1 ∙ more (s - 1) own there)) p.2
+    ]
 
 -- what is outside of an open scope is not below n
 pub beyond : (nodes : List Node) (lists : List (Vec ℕ Global)) (scope n place : ℕ) (node : Node) → slice_get nodes place ≡ Some node → IsGiven lists scope → AreOpen lists n

@@ -1,2 +1,4 @@
 pub mod Scope
 pub mod Restoring
+pub mod Keeping
+pub mod Walking

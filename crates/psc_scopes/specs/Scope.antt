@@ -31,6 +31,10 @@ pub record AreOpen (lists : List (Vec ℕ Global)) (n : ℕ) : Type 0 where
 abbrev pub IsGiven : List (Vec ℕ Global) → ℕ → Type 0
 IsGiven lists scope = (list : Vec ℕ Global) × (slice_get lists (scope - 1) ≡ Some list)
 
+-- a call gave the scope, with this list
+abbrev pub IsGivenAs : List (Vec ℕ Global) → ℕ → List ℕ → Type 0
+IsGivenAs lists scope list = (own : Vec ℕ Global) × (slice_get lists (scope - 1) ≡ Some own) × (own.items ≡ list)
+
 -- the rigid variable is in the list of the scope
 abbrev pub IsListed : List (Vec ℕ Global) → ℕ → ℕ → Type 0
 IsListed lists scope rigid = (list : Vec ℕ Global) × (slice_get lists (scope - 1) ≡ Some list) × Holds list.items rigid

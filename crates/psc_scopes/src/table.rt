@@ -1,6 +1,7 @@
 // Scopes by number. Number 0 is the scope that no call has given yet: every rigid variable.
-ghost use Rattle.std.specs.Prelude.{◌≡◌, ℕ, ◌-◌, ◌<◌, ◌∷◌, ◌++◌, [], true, false, length, OnOk, IfOk, IfSome, Err, None, Some, slice_get};
-ghost use Rattle.psc_scopes.specs.Scope.{Holds, HoldsBelow, Rises, AllRise, AreOpen, IsGiven, Lies, IsWithin, Extends};
+ghost use Rattle.std.specs.Prelude.{◌≡◌, ℕ, ◌-◌, ◌<◌, ◌∷◌, ◌++◌, [], true, false, length, OnOk, IfOk, IfSome, Err, None, Some, slice_get, IsTrue, ◌↔◌};
+ghost use Rattle.psc_scopes.specs.Scope.{Holds, HoldsBelow, Rises, AllRise, AreOpen, IsGiven, IsGivenAs, Lies, IsWithin, Extends};
+ghost use Rattle.psc_scopes.specs.Keeping.{IsScope};
 
 use psc_graph::Stop;
 use std::alloc::Global;
@@ -35,11 +36,18 @@ fn keep(list: &mut Vec<u64>, rigid: u64) -> Result<(), Stop>
     }
 }
 
+fn is_same_list(list: &[u64], other: &[u64]) -> bool
+    ensures { IsTrue result ↔ (list.now ≡ other.now) }
+{
+    list == other
+}
+
 /// What lies in both lists.
 fn keep_common(alloc: Global, left: &[u64], right: &[u64]) -> Result<Vec<u64>, Stop>
     ensures left { IfOk result (λ list. (r : ℕ) → Holds list.items r → Holds left.now r) }
     ensures right { IfOk result (λ list. (r : ℕ) → Holds list.items r → Holds right.now r) }
     ensures rises { IfOk result (λ list. Rises left.now → Rises list.items) }
+    ensures common { IfOk result (λ list. (r : ℕ) → Rises right.now → Holds left.now r → Holds right.now r → Holds list.items r) }
     ensures both { IfOk result (λ list. (n : ℕ) → Rises right.now → HoldsBelow left.now n → HoldsBelow right.now n → HoldsBelow list.items n) }
     ensures clash { result ≡ Err Stop.Clash → ⊥ }
 {
@@ -116,6 +124,7 @@ impl ScopeTable {
     pub fn add(&mut self, list: Vec<u64>) -> Result<u64, Stop>
         ensures number { IfOk result (λ scope. (scope ≡ 0 → ⊥) × (slice_get self.new.lists.items (scope - 1) ≡ Some list)) }
         ensures kept { OnOk result (Extends self.old.lists.items self.new.lists.items) }
+        ensures rise { OnOk result (AllRise self.old.lists.items → Rises list.items → AllRise self.new.lists.items) }
         ensures opened { OnOk result ((n : ℕ) → AreOpen self.old.lists.items n → Rises list.items → HoldsBelow list.items n → AreOpen self.new.lists.items n) }
         ensures clash { result ≡ Err Stop.Clash → ⊥ }
     {
@@ -124,9 +133,13 @@ impl ScopeTable {
     }
 
     /// Whether the scope has these rigid variables and no others.
-    pub fn has_exactly(&self, scope: u64, list: &[u64]) -> bool {
+    pub fn has_exactly(&self, scope: u64, list: &[u64]) -> bool
+        ensures list { result ≡ true → IsGivenAs self.now.lists.items scope list.now }
+        ensures given { result ≡ true → scope ≡ 0 → ⊥ }
+        ensures other { result ≡ false → (scope ≡ 0 → ⊥) → IsGivenAs self.now.lists.items scope list.now → ⊥ }
+    {
         match self.list(scope) {
-            Some(own) => own.as_slice() == list,
+            Some(own) => is_same_list(own.as_slice(), list),
             None => false,
         }
     }
@@ -168,6 +181,9 @@ impl ScopeTable {
     pub fn meet(&mut self, alloc: Global, left: u64, right: u64) -> Result<u64, Stop>
         ensures left { IfOk result (λ scope. IsWithin self.new.lists.items scope left) }
         ensures right { IfOk result (λ scope. IsWithin self.new.lists.items scope right) }
+        ensures both { IfOk result (λ scope. (r : ℕ) → AllRise self.old.lists.items → IsScope self.old.lists.items left → IsScope self.old.lists.items right → Lies self.new.lists.items left r → Lies self.new.lists.items right r → Lies self.new.lists.items scope r) }
+        ensures scope { IfOk result (λ scope. IsScope self.old.lists.items left → IsScope self.old.lists.items right → IsScope self.new.lists.items scope) }
+        ensures rise { OnOk result (AllRise self.old.lists.items → AllRise self.new.lists.items) }
         ensures kept { OnOk result (Extends self.old.lists.items self.new.lists.items) }
         ensures opened { OnOk result ((n : ℕ) → AreOpen self.old.lists.items n → AreOpen self.new.lists.items n) }
         ensures clash { result ≡ Err Stop.Clash → ⊥ }

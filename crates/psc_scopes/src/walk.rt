@@ -1,6 +1,13 @@
 // The walk from a bound unknown over its value.
-ghost use Rattle.std.specs.Prelude.{◌≡◌, ℕ, ◌<◌, ◌-◌, List, [], ◌∷◌, ◌++◌, length, get_or, slice_get, slice_set, OnOk, OnErr, MatchOption, None, Err};
+ghost use Rattle.std.specs.Prelude.{◌≡◌, ℕ, ◌<◌, ◌≤◌, ◌-◌, Bool, true, false, List, [], ◌∷◌, ◌++◌, length, get_or, slice_get, slice_set, OnOk, OnErr, MatchOption, None, Some, Err};
+ghost use Rattle.std.specs.BTreeSet.{contains};
+ghost use Rattle.std.specs.Ordering.{nat_cmp};
+ghost use Rattle.psc_graph.specs.Tree.{Tree};
+ghost use Rattle.psc_graph.specs.Model.{Solves};
+ghost use Rattle.psc_graph.specs.Explore.{parts_of};
 ghost use Rattle.psc_scopes.specs.Scope.{AllRise, AreOpen, HasBeyond, IsGiven, Lies, IsWithin, Extends};
+ghost use Rattle.psc_scopes.specs.Keeping.{Keeps, scope_at, IsScope, AreScopes, IsLeft, Narrows, AllKeep, IsNarrowed};
+ghost use Rattle.psc_scopes.specs.Walking.{Meeting, Looked, NotedKeep};
 ghost use Rattle.psc_scopes.specs.Restoring.{Restores, undone};
 
 use crate::table::ScopeTable;
@@ -18,7 +25,9 @@ pub struct Bounds {
 
 impl Bounds {
     /// No node has a scope.
-    pub fn new(alloc: Global) -> Bounds {
+    pub fn new(alloc: Global) -> Bounds
+        ensures { result.scopes.items ≡ [] }
+    {
         Bounds {
             scopes: Vec::new(alloc),
             writes: Vec::new(alloc),
@@ -32,18 +41,23 @@ impl Bounds {
         self.scopes.get(place).copied().unwrap_or(0)
     }
 
-    /// Gives the first `length` places a scope, where they have none.
-    pub fn cover(&mut self, length: usize) -> Result<(), Stop>
+    /// Gives the first `count` places a scope, where they have none.
+    pub fn cover(&mut self, count: usize) -> Result<(), Stop>
+        ensures zeros { OnOk result ((q : ℕ) → scope_at self.new.scopes.items q ≡ scope_at self.old.scopes.items q) }
+        ensures longer { OnOk result (length self.old.scopes.items ≤ length self.new.scopes.items) }
+        ensures covered { OnOk result (count ≤ length self.new.scopes.items) }
+        ensures exact { OnOk result (length self.old.scopes.items ≤ count → length self.new.scopes.items ≡ count) }
         ensures restores { (xs : List ℕ) → Restores self.old xs → Restores self.new xs }
         ensures clash { result ≡ Err Stop.Clash → ⊥ }
     {
-        for _ in self.scopes.len()..length {
+        for _place in self.scopes.len()..count {
             self.add_none()?;
         }
         Ok(())
     }
 
     fn add_none(&mut self) -> Result<(), Stop>
+        ensures added { OnOk result (self.new.scopes.items ≡ self.old.scopes.items ++ 0 ∷ []) }
         ensures restores { (xs : List ℕ) → Restores self.old xs → Restores self.new xs }
         ensures clash { result ≡ Err Stop.Clash → ⊥ }
     {
@@ -140,6 +154,12 @@ struct Walk {
     work: Vec<usize>,
 }
 
+fn nothing_seen(alloc: Global) -> BTreeSet<usize>
+    ensures { (q : ℕ) → contains nat_cmp result q ≡ false }
+{
+    BTreeSet::new(alloc)
+}
+
 /// Narrows the scope of an unknown that is left.
 fn narrow_free(
     alloc: Global,
@@ -149,6 +169,9 @@ fn narrow_free(
     at: usize,
 ) -> Result<(), Stop>
     ensures within { OnOk result (at < length bounds.old.scopes.items → IsWithin table.new.lists.items (get_or bounds.new.scopes.items at 0) scope) }
+    ensures narrows { OnOk result ((nodes : List Node) → AreScopes table.old.lists.items bounds.old.scopes.items → IsScope table.old.lists.items scope → IsLeft nodes at → Narrows nodes table.old.lists.items table.new.lists.items bounds.old.scopes.items bounds.new.scopes.items) }
+    ensures meeting { OnOk result (AreScopes table.old.lists.items bounds.old.scopes.items → IsScope table.old.lists.items scope → Meeting table.new.lists.items scope at bounds.old.scopes.items bounds.new.scopes.items) }
+    ensures length { OnOk result (length bounds.new.scopes.items ≡ length bounds.old.scopes.items) }
     ensures kept { OnOk result (Extends table.old.lists.items table.new.lists.items) }
     ensures opened { OnOk result ((n : ℕ) → AreOpen table.old.lists.items n → AreOpen table.new.lists.items n) }
     ensures restores { (xs : List ℕ) → Restores bounds.old xs → Restores bounds.new xs }
@@ -174,6 +197,11 @@ fn narrow_end(
 ) -> Result<(), Stop>
     ensures inside { OnOk result ((r k : ℕ) → node ≡ Node.Atom (Leaf.Rigid r k) → Lies table.old.lists.items walk.old.scope r) }
     ensures narrowed { OnOk result ((k : ℕ) → node ≡ Node.Free k → end < length bounds.old.scopes.items → IsWithin table.new.lists.items (get_or bounds.new.scopes.items end 0) walk.old.scope) }
+    ensures narrows { OnOk result ((nodes : List Node) → AreScopes table.old.lists.items bounds.old.scopes.items → IsScope table.old.lists.items walk.old.scope → slice_get nodes end ≡ Some node → Narrows nodes table.old.lists.items table.new.lists.items bounds.old.scopes.items bounds.new.scopes.items) }
+    ensures meeting { OnOk result (AreScopes table.old.lists.items bounds.old.scopes.items → IsScope table.old.lists.items walk.old.scope → Meeting table.new.lists.items walk.old.scope end bounds.old.scopes.items bounds.new.scopes.items) }
+    ensures length { OnOk result (length bounds.new.scopes.items ≡ length bounds.old.scopes.items) }
+    ensures noted { OnOk result (walk.new.work.items ≡ walk.old.work.items ++ parts_of node) }
+    ensures seen { walk.new.seen ≡ walk.old.seen }
     ensures clash { result ≡ Err Stop.Clash → (r k : ℕ) × (node ≡ Node.Atom (Leaf.Rigid r k)) × (AllRise table.old.lists.items → Lies table.old.lists.items walk.old.scope r → ⊥) }
     ensures kept { OnOk result (Extends table.old.lists.items table.new.lists.items) }
     ensures opened { OnOk result ((n : ℕ) → AreOpen table.old.lists.items n → AreOpen table.new.lists.items n) }
@@ -221,6 +249,13 @@ fn narrow_at(
     ensures kept { OnOk result (Extends table.old.lists.items table.new.lists.items) }
     ensures opened { OnOk result ((n : ℕ) → AreOpen table.old.lists.items n → AreOpen table.new.lists.items n) }
     ensures scope { walk.new.scope ≡ walk.old.scope }
+    ensures narrows { OnOk result (AreScopes table.old.lists.items bounds.old.scopes.items → IsScope table.old.lists.items walk.old.scope → Narrows nodes.now table.old.lists.items table.new.lists.items bounds.old.scopes.items bounds.new.scopes.items) }
+    ensures length { OnOk result (length bounds.new.scopes.items ≡ length bounds.old.scopes.items) }
+    ensures marked { OnOk result ((q : ℕ) → contains nat_cmp walk.old.seen q ≡ true → contains nat_cmp walk.new.seen q ≡ true) }
+    ensures looked { OnOk result ((all : List ℕ) → AreScopes table.old.lists.items bounds.old.scopes.items → IsScope table.old.lists.items walk.old.scope → length nodes.now ≤ length bounds.old.scopes.items → all ≡ walk.old.work.items ++ at ∷ [] → Looked nodes.now table.old.lists.items bounds.old.scopes.items walk.old.scope (contains nat_cmp walk.old.seen) all → Looked nodes.now table.new.lists.items bounds.new.scopes.items walk.old.scope (contains nat_cmp walk.new.seen) walk.new.work.items) }
+    ensures keeps { OnOk result ((may : ℕ → ℕ → Bool) (v : ℕ → Tree) → AreScopes table.old.lists.items bounds.old.scopes.items → IsScope table.old.lists.items walk.old.scope → Solves v nodes.now → Keeps may (Lies table.old.lists.items walk.old.scope) (v at) → AllKeep may table.old.lists.items bounds.old.scopes.items v → AllKeep may table.new.lists.items bounds.new.scopes.items v) }
+    ensures noted { OnOk result ((may : ℕ → ℕ → Bool) (v : ℕ → Tree) → Solves v nodes.now → Keeps may (Lies table.old.lists.items walk.old.scope) (v at) → NotedKeep may table.old.lists.items walk.old.scope v walk.old.work.items → NotedKeep may table.new.lists.items walk.old.scope v walk.new.work.items) }
+    ensures escapes { result ≡ Err Stop.Clash → (may : ℕ → ℕ → Bool) (v : ℕ → Tree) → AreScopes table.old.lists.items bounds.old.scopes.items → Solves v nodes.now → Keeps may (Lies table.old.lists.items walk.old.scope) (v at) → ⊥ }
     ensures clash { result ≡ Err Stop.Clash → (n : ℕ) → IsGiven table.old.lists.items walk.old.scope → AreOpen table.old.lists.items n → HasBeyond nodes.now n }
 {
     let own = bounds.at(at);
@@ -246,6 +281,11 @@ pub fn narrow(
     bounds: &mut Bounds,
     unknown: usize,
 ) -> Result<(), Stop>
+    ensures narrows { OnOk result (AreScopes table.old.lists.items bounds.old.scopes.items → Narrows nodes.now table.old.lists.items table.new.lists.items bounds.old.scopes.items bounds.new.scopes.items) }
+    ensures length { OnOk result (length bounds.new.scopes.items ≡ length bounds.old.scopes.items) }
+    ensures narrowed { OnOk result (AreScopes table.old.lists.items bounds.old.scopes.items → length nodes.now ≤ length bounds.old.scopes.items → IsNarrowed nodes.now table.new.lists.items bounds.new.scopes.items unknown) }
+    ensures keeps { OnOk result ((may : ℕ → ℕ → Bool) (v : ℕ → Tree) → AreScopes table.old.lists.items bounds.old.scopes.items → Solves v nodes.now → AllKeep may table.old.lists.items bounds.old.scopes.items v → AllKeep may table.new.lists.items bounds.new.scopes.items v) }
+    ensures escapes { result ≡ Err Stop.Clash → (may : ℕ → ℕ → Bool) (v : ℕ → Tree) → AreScopes table.old.lists.items bounds.old.scopes.items → Solves v nodes.now → AllKeep may table.old.lists.items bounds.old.scopes.items v → ⊥ }
     ensures restores { (xs : List ℕ) → Restores bounds.old xs → Restores bounds.new xs }
     ensures opened { OnOk result ((n : ℕ) → AreOpen table.old.lists.items n → AreOpen table.new.lists.items n) }
     ensures clash { result ≡ Err Stop.Clash → (n : ℕ) → AreOpen table.old.lists.items n → HasBeyond nodes.now n }
@@ -257,16 +297,14 @@ pub fn narrow(
     if !table.is_given(scope) {
         return Err(Stop::Memory);
     }
-    let (end, _) = find(nodes, unknown)?;
-    if end == unknown {
-        return Ok(());
-    }
+    let (end, node) = find(nodes, unknown)?;
     let mut walk = Walk {
         scope,
-        seen: BTreeSet::new(alloc),
+        seen: nothing_seen(alloc),
         work: Vec::new(alloc),
     };
-    note(&mut walk.work, end)?;
+    see(&mut walk.seen, end)?;
+    narrow_end(alloc, table, bounds, &mut walk, end, node)?;
     for _ in 0..u64::MAX {
         let Some(at) = take_note(&mut walk.work) else {
             return Ok(());

@@ -1,5 +1,5 @@
 -- An equation more.
-use Rattle.std.proofs.Common.{◌≡◌, ℕ, ◌<◌, List, [], ◌∷◌, length, Some, slice_get, sym, ◌∙◌}
+use Rattle.std.proofs.Common.{◌≡◌, ℕ, ◌<◌, ◌≤◌, List, [], ◌∷◌, length, Some, slice_get, sym, ◌∙◌, arith}
 use Rattle.psc_graph.specs.Tree.{Tree}
 use Rattle.psc_graph.specs.General.{IsSolution, IsReady}
 use Rattle.psc_rows.specs.Steps.{Steps}
@@ -8,6 +8,7 @@ use Rattle.psc_type.specs.declared.ty.Ty.{Ty}
 use Rattle.psc_unify.specs.declared.tables.Names.{Names}
 use Rattle.psc_unify.specs.Naming.{Naming}
 use Rattle.psc_unify.specs.Solved.{Fits, Continues, Adds, Values, Means, IsSolutionOf, Stands, HasNone}
+use Rattle.psc_unify.specs.Scoped.{GoesOn}
 use Rattle.psc_unify.proofs.Naming.{fits_before}
 use Rattle.psc_unify.proofs.Small.{lt_more}
 use Rattle.psc_unify.proofs.Standing.{values_agree}
@@ -72,3 +73,13 @@ module _ (g0 g1 g2 : Graph) (n0 n1 n2 : Names) (unknowns kinds : List ℕ) (eqs 
 
   pub none_equal : (IsReady g2.nodes.items g2.kinds.items → (v : ℕ → Tree) → IsSolution v g2.nodes.items → v l ≡ v r → ⊥) → HasNone n2 kinds ((a, b) ∷ eqs)
   none_equal clash = λ e fits g sol. let w = reaches e fits g sol in clash ready w.v w.sol w.same
+
+le_all : (a b c d : ℕ) → a ≤ b → b ≤ c → c ≤ d → a ≤ d
+le_all a b c d h g f = omega arith
+
+-- a solution of the graph with the equation is one of the graph before
+pub goes_equal : (g0 g1 g2 g3 : Graph) (l r : ℕ) → Adds g0 g1 → Adds g1 g2 → Steps (λ v. v l ≡ v r) g2.nodes.items g3.nodes.items g3.kinds.items [] [] → GoesOn g0 g3
+goes_equal g0 g1 g2 g3 l r add0 add1 steps = record {
+  longer = le_all (length g0.nodes.items) (length g1.nodes.items) (length g2.nodes.items) (length g3.nodes.items) add0.grows.longer add1.grows.longer steps.longer;
+  back = λ v sol. add0.grows.back v (add1.grows.back v (steps.sound v sol tt).0);
+}

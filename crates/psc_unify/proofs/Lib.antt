@@ -11,6 +11,10 @@ pub mod Starting
 pub mod Asking
 pub mod Equating
 pub mod Scoping
+pub mod Listing
 pub mod Solving
 pub mod Reading
 pub mod Promise
+pub mod Kept
+pub mod Narrowing
+pub mod ScopedSolving

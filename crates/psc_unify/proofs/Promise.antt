@@ -3,6 +3,7 @@ use Rattle.std.proofs.Common.{◌≡◌, ℕ, ◌<◌, List, None, Some, slice_g
 use Rattle.std.proofs.lemmas.Option.{slice_get_within, slice_get-get_or}
 use Rattle.psc_graph.specs.Tree.{Tree}
 use Rattle.psc_graph.specs.General.{kind_of}
+use Rattle.psc_text.specs.declared.names.Ident.{Ident}
 use Rattle.psc_type.specs.declared.ty.Ty.{Ty}
 use Rattle.psc_unify.specs.declared.state.State.{State}
 use Rattle.psc_unify.specs.declared.solver.Solver.{Solver}
@@ -12,9 +13,12 @@ use Rattle.psc_unify.specs.Meaning.{tree}
 use Rattle.psc_unify.specs.Reading.{place_or, place_of, valued, Reads}
 use Rattle.psc_unify.specs.Solved.{Stands, Fits, Values, IsSolutionOf, HasNone}
 use Rattle.psc_unify.proofs.Small.{lt_same}
-use Rattle.psc_unify.specs.Promise.{IsSolved, IsUnsolvable, IsOwn, IsValue}
+use Rattle.psc_unify.specs.declared.tables.Names.{Names}
+use Rattle.psc_unify.specs.Scoped.{KeepsScopes, HasNoneScoped, HasSome}
+use Rattle.psc_unify.specs.Promise.{IsSolved, IsUnsolvable, IsOwn, IsValue, IsScopedSolved, IsScopedUnsolvable}
 use Rattle.psc_unify.proofs.Named.{named}
 use Rattle.psc_unify.proofs.Solving.{values_of, most_general}
+use Rattle.psc_unify.proofs.ScopedSolving.{most_scoped}
 
 values_own : (unknowns : List ℕ) (v g : ℕ → Tree) → ((n : ℕ) → g n ≡ valued unknowns v n) → Values g v unknowns
 values_own unknowns v g same = record { at = λ x k e. same x ∙ ap (λ o. v (place_or x o)) e }
@@ -73,3 +77,35 @@ solved_again s t kinds eqs clash state h =
 -- a clash of scopes is no other clash
 pub other_flag : (a b : Clash) → a ≡ b → a.scopes_only ≡ true → b.scopes_only ≡ false → ⊥
 other_flag a b same flag other = let z : true ≡ false = sym flag ∙ ap (λ (x : Clash). x.scopes_only) same ∙ other in cc
+
+pub scoped_by : (s : Solver) (kinds : List ℕ) (scopes : List (List Ident)) (eqs : List (Ty × Ty)) → s.clash ≡ None → Stands s.state.graph s.state.names s.state.unknowns.items kinds eqs
+    → KeepsScopes s.state.graph s.state.names s.state.scopes.lists.items s.state.bounds.scopes.items s.state.unknowns.items scopes → IsScopedSolved s kinds scopes eqs
+unfolding solved_by
+scoped_by s kinds scopes eqs running st kept = record {
+  solved = solved_by s kinds eqs running st;
+  kept = kept;
+  general = λ e fits. most_scoped s.state.graph s.state.names s.state.scopes.lists.items s.state.bounds.scopes.items s.state.unknowns.items kinds scopes eqs st kept e fits;
+}
+
+-- what else a solver has does not matter
+pub scoped_again : (s t : Solver) (kinds : List ℕ) (scopes : List (List Ident)) (eqs : List (Ty × Ty)) → t.clash ≡ s.clash → t.state ≡ s.state → IsScopedSolved s kinds scopes eqs → IsScopedSolved t kinds scopes eqs
+scoped_again s t kinds scopes eqs clash state h =
+    let again = solved_again s t kinds eqs clash state h.solved in
+    scoped_by t kinds scopes eqs again.running again.stands
+    (subst (λ (x : State). KeepsScopes x.graph x.names x.scopes.lists.items x.bounds.scopes.items x.unknowns.items scopes) (sym state) h.kept)
+
+pub refused_by : (s : Solver) (kinds : List ℕ) (scopes : List (List Ident)) (eqs : List (Ty × Ty)) → HasNoneScoped s.state.names kinds scopes eqs → IsScopedUnsolvable s kinds scopes eqs
+refused_by s kinds scopes eqs none = record { named = named s.state.names; none = none }
+
+-- where nothing solves the equations with scopes left aside, nothing does that keeps to them
+pub none_at_all : (names : Names) (kinds : List ℕ) (scopes : List (List Ident)) (eqs : List (Ty × Ty)) → HasNone names kinds eqs → HasNoneScoped names kinds scopes eqs
+none_at_all names kinds scopes eqs none = λ e fits may g one. none e fits g one.solution
+
+pub none_scoped_state : (s t : State) (kinds : List ℕ) (scopes : List (List Ident)) (eqs : List (Ty × Ty)) → t ≡ s → HasNoneScoped s.names kinds scopes eqs → HasNoneScoped t.names kinds scopes eqs
+none_scoped_state s t kinds scopes eqs same none = subst (λ (x : State). HasNoneScoped x.names kinds scopes eqs) (sym same) none
+
+pub some_state : (s t : State) (kinds : List ℕ) (eqs : List (Ty × Ty)) → t ≡ s → HasSome s.names kinds eqs → HasSome t.names kinds eqs
+some_state s t kinds eqs same some = subst (λ (x : State). HasSome x.names kinds eqs) (sym same) some
+
+pub refused_again : (s t : Solver) (kinds : List ℕ) (scopes : List (List Ident)) (eqs : List (Ty × Ty)) → t.state ≡ s.state → IsScopedUnsolvable s kinds scopes eqs → IsScopedUnsolvable t kinds scopes eqs
+refused_again s t kinds scopes eqs state h = refused_by t kinds scopes eqs (subst (λ (x : State). HasNoneScoped x.names kinds scopes eqs) (sym state) h.none)

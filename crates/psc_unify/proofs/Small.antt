@@ -1,5 +1,5 @@
 -- Small facts on numbers and options, over plain variables.
-use Rattle.std.proofs.Common.{◌≡◌, ℕ, ◌<◌, ◌≤◌, ◌+◌, Some, None, arith}
+use Rattle.std.proofs.Common.{◌≡◌, ℕ, ◌<◌, ◌≤◌, ◌+◌, Some, None, Result, Ok, Err, OnOk, arith}
 
 pub lt_more : (k a b : ℕ) → k < a → a ≤ b → k < b
 lt_more k a b h g = omega arith
@@ -24,3 +24,8 @@ some_same x y e = cc
 
 pub nothing_below : (k n : ℕ) → k < n → n ≡ 0 → ⊥
 nothing_below k n h e = omega arith
+
+-- what follows from what an answer ensures
+pub on_ok : {T E P Q : Type 0} (r : Result T E) → (P → Q) → OnOk r P → OnOk r Q
+on_ok (Ok x) f h = f h
+on_ok (Err e) f h = tt

@@ -15,7 +15,7 @@ use Rattle.psc_unify.proofs.Small.{lt_same}
 abbrev pub values_of : (ℕ → Tree) → List ℕ → ℕ → Tree
 values_of m unknowns x = m (get_or unknowns x 0)
 
-most_solution : (m : ℕ → Tree) (nodes : List Node) → IsMostGeneral m nodes → IsSolution m nodes
+pub most_solution : (m : ℕ → Tree) (nodes : List Node) → IsMostGeneral m nodes → IsSolution m nodes
 most_solution m nodes g = record { solves = g.solves; suits = record { kind = λ k s e. ap kind_of (g.holes.hole k s e) } }
 
 pub most_general : (graph : Graph) (names : Names) (unknowns kinds : List ℕ) (eqs : List (Ty × Ty)) (st : Stands graph names unknowns kinds eqs) (e : Naming) → Fits e names → IsMostGeneralOf e kinds eqs (values_of st.ready.value unknowns)

@@ -1,12 +1,14 @@
 -- What does not matter to where a solver stands.
-use Rattle.std.proofs.Common.{◌≡◌, ℕ, ◌<◌, List, ◌∷◌, Some, slice_get, ap, sym, ◌∙◌, subst}
+use Rattle.std.proofs.Common.{◌≡◌, ℕ, ◌<◌, ◌≤◌, List, ◌∷◌, length, Some, slice_get, ap, sym, ◌∙◌, subst}
 use Rattle.psc_graph.specs.Tree.{Tree}
-use Rattle.psc_graph.specs.General.{Agrees}
+use Rattle.psc_graph.specs.General.{Agrees, IsSolution}
+use Rattle.psc_graph.specs.declared.node.Node.{Node}
 use Rattle.psc_rows.specs.declared.graph.Graph.{Graph}
 use Rattle.psc_type.specs.declared.ty.Ty.{Ty}
 use Rattle.psc_unify.specs.declared.tables.Names.{Names}
 use Rattle.psc_unify.specs.declared.state.State.{State}
 use Rattle.psc_unify.specs.Solved.{Continues, Values, Stands, HasNone, ArePlain}
+use Rattle.psc_unify.specs.Scoped.{GoesOn}
 use Rattle.psc_unify.proofs.Naming.{fits_before}
 
 pub values_agree : (g v w : ℕ → Tree) (n : ℕ) (unknowns : List ℕ) → ((x k : ℕ) → slice_get unknowns x ≡ Some k → k < n) → Agrees n v w → Values g v unknowns → Values g w unknowns
@@ -60,3 +62,15 @@ none_named old new kinds eqs c h = λ e fits. h e (fits_before e old new c fits)
 
 pub none_state : (s t : State) (kinds : List ℕ) (eqs : List (Ty × Ty)) → t ≡ s → HasNone s.names kinds eqs → HasNone t.names kinds eqs
 none_state s t kinds eqs is h = subst (λ (x : State). HasNone x.names kinds eqs) (sym is) h
+
+-- what a step over a slice of the unknowns leaves of solutions
+pub goes_slice : (us sl : List ℕ) (a b : Ty) (g h k : Graph) (n : Names) (kinds : List ℕ) (eqs : List (Ty × Ty)) → sl ≡ us → h.nodes ≡ g.nodes → h.kinds ≡ g.kinds
+    → (ArePlain sl a b → (ks : List ℕ) (es : List (Ty × Ty)) → Stands h n sl ks es → GoesOn h k)
+    → ArePlain us a b → Stands g n us kinds eqs → GoesOn g k
+goes_slice us sl a b g h k n kinds eqs is nodes list step plain st =
+    let one = step (plain_slice us sl a b is plain) kinds eqs (subst (λ (u : List ℕ). Stands h n u kinds eqs) (sym is) (stands_graph g h n us kinds eqs nodes list st)) in
+    let same : h.nodes.items ≡ g.nodes.items = ap (λ v. v.items) nodes in
+    record {
+      longer = subst (λ (l : List Node). length l ≤ length k.nodes.items) same one.longer;
+      back = λ v sol. subst (λ (l : List Node). IsSolution v l) same (one.back v sol);
+    }

@@ -1,5 +1,6 @@
 -- What the calls of a solver promise of the equations so far.
 use Rattle.std.specs.Prelude.{◌≡◌, ℕ, List, None, Some, slice_get, length}
+use Rattle.psc_text.specs.declared.names.Ident.{Ident}
 use Rattle.psc_type.specs.declared.ty.Ty.{Ty}
 use Rattle.psc_graph.specs.Tree.{Tree}
 use Rattle.psc_unify.specs.declared.solver.Solver.{Solver}
@@ -8,6 +9,7 @@ use Rattle.psc_graph.specs.General.{IsSolution}
 use Rattle.psc_unify.specs.Meaning.{tree}
 use Rattle.psc_unify.specs.Reading.{valued}
 use Rattle.psc_scopes.specs.Scope.{AreOpen}
+use Rattle.psc_unify.specs.Scoped.{KeepsScopes, IsMostGeneralScoped, may_take, HasNoneScoped, HasSome}
 use Rattle.psc_unify.specs.Solved.{Stands, Fits, HasNaming, IsSolutionOf, IsMostGeneralOf, HasNone, ArePlain}
 
 -- values for all unknowns, those that the solver made itself too, that solve its graph
@@ -46,3 +48,18 @@ HaveAllRigids s = HaveRigidsOf s s
 -- both types are without binders, and their unknowns are of the solver
 abbrev pub ArePlainIn : Solver → Ty → Ty → Type 0
 ArePlainIn s a b = ArePlain s.state.unknowns.items a b
+
+-- the solver is at a most general solution of the equations that keeps to the scopes; of the unknowns in it, each may take what the scope at its place has
+pub record IsScopedSolved (s : Solver) (kinds : List ℕ) (scopes : List (List Ident)) (eqs : List (Ty × Ty)) : Type 0 where
+  pub solved : IsSolved s kinds eqs
+  pub kept : KeepsScopes s.state.graph s.state.names s.state.scopes.lists.items s.state.bounds.scopes.items s.state.unknowns.items scopes
+  pub general : (e : Naming) → Fits e s.state.names → IsMostGeneralScoped e kinds scopes eqs (may_take s.state.scopes.lists.items s.state.bounds.scopes.items) solved.values
+
+-- no values for the unknowns keep to the scopes and solve the equations, under any naming that fits, and one fits
+pub record IsScopedUnsolvable (s : Solver) (kinds : List ℕ) (scopes : List (List Ident)) (eqs : List (Ty × Ty)) : Type 0 where
+  pub named : HasNaming s.state.names
+  pub none : HasNoneScoped s.state.names kinds scopes eqs
+
+-- with scopes left aside the equations have a solution
+abbrev pub IsSolvable : Solver → List ℕ → List (Ty × Ty) → Type 0
+IsSolvable s kinds eqs = HasSome s.state.names kinds eqs

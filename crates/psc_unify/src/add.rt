@@ -1,6 +1,7 @@
 // The nodes of a type. A variable that a `forall` binds is told by how far out its `forall` is.
 ghost use Rattle.std.specs.Prelude.{◌≡◌, ℕ, ◌<◌, [], ◌∷◌, ◌++◌, length, OnOk, IfOk, IfSome, IsTrue, slice_get, get_or, Some, None};
 ghost use Rattle.psc_graph.specs.General.{IsReady};
+ghost use Rattle.psc_rows.specs.Writes.{Remembers};
 ghost use Rattle.psc_unify.specs.Meaning.{is_plain};
 ghost use Rattle.psc_unify.specs.Naming.{Naming};
 ghost use Rattle.psc_unify.specs.Reading.{place_of};
@@ -18,6 +19,7 @@ use psc_type::{Kind, Ty};
 /// Adds a node.
 pub fn push(graph: &mut Graph, node: Node) -> Result<usize, NoMemory>
     ensures adds { OnOk result (Adds graph.old graph.new) }
+    ensures remembers { OnOk result (Remembers graph.old graph.new) }
     ensures place { IfOk result (λ r. slice_get graph.new.nodes.items r ≡ Some node) }
     ensures last { IfOk result (λ r. r ≡ length graph.old.nodes.items) }
     ensures pushed { OnOk result (graph.new.nodes.items ≡ graph.old.nodes.items ++ node ∷ []) }
@@ -36,6 +38,7 @@ fn push_constant(
     kind: u64,
 ) -> Result<usize, NoMemory>
     ensures adds { OnOk result (Adds graph.old graph.new) }
+    ensures remembers { OnOk result (Remembers graph.old graph.new) }
     ensures names { OnOk result (Continues names.old names.new) }
     ensures place { IfOk result (λ r. (i k : ℕ) × (slice_get names.new.constants.rows.items i ≡ Some (constant, k)) × (slice_get graph.new.nodes.items r ≡ Some (Node.Atom (Leaf.Constant i k)))) }
 {
@@ -47,6 +50,7 @@ fn push_constant(
 /// Adds a rigid variable, which has the kind of types if it is new.
 fn push_rigid(graph: &mut Graph, names: &mut Names, name: &Ident) -> Result<usize, NoMemory>
     ensures adds { OnOk result (Adds graph.old graph.new) }
+    ensures remembers { OnOk result (Remembers graph.old graph.new) }
     ensures names { OnOk result (Continues names.old names.new) }
     ensures place { IfOk result (λ r. (i k : ℕ) × (slice_get names.new.rigids.rows.items i ≡ Some (name.now, k)) × (slice_get graph.new.nodes.items r ≡ Some (Node.Atom (Leaf.Rigid i k)))) }
 {
@@ -76,6 +80,7 @@ pub fn known_place(graph: &Graph, unknowns: &[usize], unknown: u64) -> Option<us
 /// The place of an unknown. One that is not of this solver gets a node that no value shows.
 fn place_in(graph: &mut Graph, unknowns: &[usize], unknown: u64) -> Result<usize, NoMemory>
     ensures adds { OnOk result (Adds graph.old graph.new) }
+    ensures remembers { OnOk result (Remembers graph.old graph.new) }
     ensures inside { IfOk result (λ r. r < length graph.new.nodes.items) }
     ensures place { unknown < length unknowns.now → IfOk result (λ r. slice_get unknowns.now unknown ≡ Some r) }
 {
@@ -108,6 +113,7 @@ fn add_variable(
     name: &Ident,
 ) -> Result<usize, NoMemory>
     ensures adds { OnOk result (Adds graph.old graph.new) }
+    ensures remembers { OnOk result (Remembers graph.old graph.new) }
     ensures names { OnOk result (Continues names.old names.new) }
     ensures inside { IfOk result (λ r. r < length graph.new.nodes.items) }
     ensures place { binders.now ≡ [] → IfOk result (λ r. (i k : ℕ) × (slice_get names.new.rigids.rows.items i ≡ Some (name.now, k)) × (slice_get graph.new.nodes.items r ≡ Some (Node.Atom (Leaf.Rigid i k)))) }
@@ -139,6 +145,7 @@ fn push_application(
     right: usize,
 ) -> Result<usize, NoMemory>
     ensures adds { OnOk result (Adds graph.old graph.new) }
+    ensures remembers { OnOk result (Remembers graph.old graph.new) }
     ensures place { IfOk result (λ r. (k : ℕ) × IsResult names.now.kinds.results.items (get_or graph.old.kinds.items left None) k × (slice_get graph.new.nodes.items r ≡ Some (Node.Join (Former.Apply k) left right))) }
 {
     let Some(result) = names.kinds.result(kind_at(graph, left)) else {
@@ -155,6 +162,7 @@ fn push_forall(
     body: usize,
 ) -> Result<usize, NoMemory>
     ensures adds { OnOk result (Adds graph.old graph.new) }
+    ensures remembers { OnOk result (Remembers graph.old graph.new) }
     ensures names { OnOk result (Continues names.old names.new) }
     ensures inside { IfOk result (λ r. r < length graph.new.nodes.items) }
 {
@@ -172,6 +180,7 @@ fn push_given(
     body: usize,
 ) -> Result<usize, NoMemory>
     ensures adds { OnOk result (Adds graph.old graph.new) }
+    ensures remembers { OnOk result (Remembers graph.old graph.new) }
     ensures names { OnOk result (Continues names.old names.new) }
     ensures inside { IfOk result (λ r. r < length graph.new.nodes.items) }
 {
@@ -182,6 +191,7 @@ fn push_given(
 
 fn push_any(graph: &mut Graph, names: &mut Names, kind: &Kind) -> Result<usize, NoMemory>
     ensures adds { OnOk result (Adds graph.old graph.new) }
+    ensures remembers { OnOk result (Remembers graph.old graph.new) }
     ensures names { OnOk result (Continues names.old names.new) }
     ensures inside { IfOk result (λ r. r < length graph.new.nodes.items) }
 {
@@ -198,6 +208,7 @@ fn push_field(
     rest: usize,
 ) -> Result<usize, NoMemory>
     ensures adds { OnOk result (Adds graph.old graph.new) }
+    ensures remembers { OnOk result (Remembers graph.old graph.new) }
     ensures names { OnOk result (Continues names.old names.new) }
     ensures place { IfOk result (λ r. (i : ℕ) × (slice_get names.new.labels.rows.items i ≡ Some label.now) × (slice_get graph.new.nodes.items r ≡ Some (Node.Field i head rest))) }
 {
@@ -216,6 +227,7 @@ pub fn add_type(
     ty: &Ty,
 ) -> Result<usize, NoMemory>
     ensures adds { OnOk result (Adds graph.old graph.new) }
+    ensures remembers { OnOk result (Remembers graph.old graph.new) }
     ensures names { OnOk result (Continues names.old names.new) }
     ensures restored { OnOk result (binders.new.items ≡ binders.old.items) }
     ensures inside { IfOk result (λ r. r < length graph.new.nodes.items) }
@@ -291,6 +303,7 @@ fn add_arguments(
     arguments: &[Ty],
 ) -> Result<usize, NoMemory>
     ensures adds { OnOk result (Adds graph.old graph.new) }
+    ensures remembers { OnOk result (Remembers graph.old graph.new) }
     ensures names { OnOk result (Continues names.old names.new) }
     ensures restored { OnOk result (binders.new.items ≡ binders.old.items) }
     ensures inside { IfOk result (λ r. r < length graph.new.nodes.items) }

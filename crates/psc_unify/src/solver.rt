@@ -4,9 +4,11 @@ ghost use Rattle.std.specs.Prelude.{◌≡◌, ℕ, ◌<◌, ◌≤◌, List, []
 ghost use Rattle.psc_type.specs.declared.ty.Ty.{Ty};
 ghost use Rattle.psc_unify.specs.Solved.{Stands, HasNone, ArePlain, Continues};
 ghost use Rattle.psc_scopes.specs.Scope.{AreOpen};
+ghost use Rattle.psc_text.specs.declared.names.Ident.{Ident};
 ghost use Rattle.psc_unify.specs.Meaning.{is_plain};
+ghost use Rattle.psc_unify.specs.Scoped.{KeepsScopes, HasNoneScoped, HasSome};
 ghost use Rattle.psc_unify.specs.Tables.{AreAmong};
-ghost use Rattle.psc_unify.specs.Promise.{IsSolved, IsUnsolvable, ArePlainIn, IsValue, HaveRigidsOf, HaveAllRigids};
+ghost use Rattle.psc_unify.specs.Promise.{IsSolved, IsUnsolvable, ArePlainIn, IsValue, HaveRigidsOf, HaveAllRigids, IsScopedSolved, IsScopedUnsolvable, IsSolvable};
 
 use crate::equate::{narrow_bound, relate};
 use crate::names::Constant;
@@ -157,6 +159,9 @@ fn end_escaped(state: &mut State, count: usize) -> Result<Ended, NoMemory>
 fn add_equation(alloc: Global, state: &mut State, a: &Ty, b: &Ty) -> Result<Ended, NoMemory>
     ensures solved { result ≡ Ok Ended.Solved → ArePlain state.old.unknowns.items a.now b.now → (kinds : List ℕ) (eqs : List (Ty × Ty)) → Stands state.old.graph state.old.names state.old.unknowns.items kinds eqs → Stands state.new.graph state.new.names state.new.unknowns.items kinds ((a.now, b.now) ∷ eqs) }
     ensures clash { result ≡ Ok Ended.Clashed → ArePlain state.old.unknowns.items a.now b.now → (kinds : List ℕ) (eqs : List (Ty × Ty)) → Stands state.old.graph state.old.names state.old.unknowns.items kinds eqs → HasNone state.new.names kinds ((a.now, b.now) ∷ eqs) }
+    ensures scoped { result ≡ Ok Ended.Solved → ArePlain state.old.unknowns.items a.now b.now → (kinds : List ℕ) (scopes : List (List Ident)) (eqs : List (Ty × Ty)) → Stands state.old.graph state.old.names state.old.unknowns.items kinds eqs → KeepsScopes state.old.graph state.old.names state.old.scopes.lists.items state.old.bounds.scopes.items state.old.unknowns.items scopes → KeepsScopes state.new.graph state.new.names state.new.scopes.lists.items state.new.bounds.scopes.items state.new.unknowns.items scopes }
+    ensures refused { result ≡ Ok Ended.Escaped → ArePlain state.old.unknowns.items a.now b.now → (kinds : List ℕ) (scopes : List (List Ident)) (eqs : List (Ty × Ty)) → Stands state.old.graph state.old.names state.old.unknowns.items kinds eqs → KeepsScopes state.old.graph state.old.names state.old.scopes.lists.items state.old.bounds.scopes.items state.old.unknowns.items scopes → HasNoneScoped state.new.names kinds scopes ((a.now, b.now) ∷ eqs) }
+    ensures ignored { result ≡ Ok Ended.Escaped → ArePlain state.old.unknowns.items a.now b.now → (kinds : List ℕ) (eqs : List (Ty × Ty)) → Stands state.old.graph state.old.names state.old.unknowns.items kinds eqs → HasSome state.new.names kinds ((a.now, b.now) ∷ eqs) }
     ensures opened { result ≡ Ok Ended.Solved → (n : ℕ) → AreOpen state.old.scopes.lists.items n → AreOpen state.new.scopes.lists.items n }
     ensures plain { result ≡ Ok Ended.Escaped → ArePlain state.old.unknowns.items a.now b.now → AreOpen state.old.scopes.lists.items (length state.new.names.rigids.rows.items) → ⊥ }
     ensures clash_before { result ≡ Ok Ended.Clashed → length state.new.graph.nodes.items ≤ length state.old.graph.nodes.items }
@@ -216,6 +221,7 @@ impl Solver {
     /// them has the kind `Type`.
     pub fn start(alloc: Global, kinds: &[TypeKind]) -> Result<Solver, NoMemory>
         ensures solved { IfOk result (λ solver. IsSolved solver [] []) }
+        ensures scoped { IfOk result (λ solver. IsScopedSolved solver [] [] []) }
         ensures opened { IfOk result (λ solver. HaveAllRigids solver) }
     {
         let mut state = State::new(alloc)?;
@@ -233,6 +239,7 @@ impl Solver {
     /// it. After want of memory here, in `fresh` or in `equate`, every call answers it.
     pub fn rigid(&mut self, alloc: Global, name: &Ident, kind: Kind) -> Result<Ident, NoMemory>
         ensures solved { OnOk result ((kinds : List ℕ) (eqs : List (Ty × Ty)) → IsSolved self.old kinds eqs → IsSolved self.new kinds eqs) }
+        ensures scoped { OnOk result ((kinds : List ℕ) (scopes : List (List Ident)) (eqs : List (Ty × Ty)) → IsScopedSolved self.old kinds scopes eqs → IsScopedSolved self.new kinds scopes eqs) }
         ensures scopes { self.new.state.scopes ≡ self.old.state.scopes }
         ensures stays { self.new.clash ≡ self.old.clash }
         ensures spent { self.old.is_spent ≡ true → (self.new.is_spent ≡ true) × OnOk result ⊥ }
@@ -257,6 +264,7 @@ impl Solver {
     pub fn fresh(&mut self, alloc: Global, kind: Kind, scope: &Scope) -> Result<u64, NoMemory>
         ensures number { IfOk result (λ number. (kinds : List ℕ) (eqs : List (Ty × Ty)) → IsSolved self.old kinds eqs → number ≡ length kinds) }
         ensures solved { OnOk result ((kinds : List ℕ) (eqs : List (Ty × Ty)) → IsSolved self.old kinds eqs → (k : ℕ) × IsSolved self.new (kinds ++ k ∷ []) eqs) }
+        ensures scoped { OnOk result ((kinds : List ℕ) (scopes : List (List Ident)) (eqs : List (Ty × Ty)) → IsScopedSolved self.old kinds scopes eqs → (k : ℕ) × IsScopedSolved self.new (kinds ++ k ∷ []) (scopes ++ scope.now.rigid ∷ []) eqs) }
         ensures opened { OnOk result (HaveRigidsOf self.old self.new → AreAmong self.new.state.names.rigids.rows.items scope.now.rigid → HaveAllRigids self.new) }
         ensures stays { self.new.clash ≡ self.old.clash }
         ensures spent { self.old.is_spent ≡ true → (self.new.is_spent ≡ true) × OnOk result ⊥ }
@@ -302,6 +310,9 @@ impl Solver {
     fn try_equate(&mut self, alloc: Global, a: &Ty, b: &Ty) -> Result<Result<(), Clash>, NoMemory>
         ensures solved { result ≡ Ok (Ok tt) → ArePlainIn self.old a.now b.now → (kinds : List ℕ) (eqs : List (Ty × Ty)) → IsSolved self.old kinds eqs → IsSolved self.new kinds ((a.now, b.now) ∷ eqs) }
         ensures clash { (clash : Clash) → result ≡ Ok (Err clash) → clash.scopes_only ≡ false → ArePlainIn self.old a.now b.now → (kinds : List ℕ) (eqs : List (Ty × Ty)) → IsSolved self.old kinds eqs → IsUnsolvable self.new kinds ((a.now, b.now) ∷ eqs) }
+        ensures scoped { result ≡ Ok (Ok tt) → ArePlainIn self.old a.now b.now → (kinds : List ℕ) (scopes : List (List Ident)) (eqs : List (Ty × Ty)) → IsScopedSolved self.old kinds scopes eqs → IsScopedSolved self.new kinds scopes ((a.now, b.now) ∷ eqs) }
+        ensures refused { (clash : Clash) → result ≡ Ok (Err clash) → ArePlainIn self.old a.now b.now → (kinds : List ℕ) (scopes : List (List Ident)) (eqs : List (Ty × Ty)) → IsScopedSolved self.old kinds scopes eqs → IsScopedUnsolvable self.new kinds scopes ((a.now, b.now) ∷ eqs) }
+        ensures ignored { (clash : Clash) → result ≡ Ok (Err clash) → clash.scopes_only ≡ true → ArePlainIn self.old a.now b.now → (kinds : List ℕ) (eqs : List (Ty × Ty)) → IsSolved self.old kinds eqs → IsSolvable self.new kinds ((a.now, b.now) ∷ eqs) }
         ensures opened { result ≡ Ok (Ok tt) → (n : ℕ) → AreOpen self.old.state.scopes.lists.items n → AreOpen self.new.state.scopes.lists.items n }
         ensures plain { (clash : Clash) → result ≡ Ok (Err clash) → self.old.clash ≡ None → ArePlainIn self.old a.now b.now → HaveRigidsOf self.old self.new → clash.scopes_only ≡ false }
         ensures stays { (clash : Clash) → self.old.clash ≡ Some clash → (self.new.clash ≡ Some clash) × IfOk result (λ r. r ≡ Err clash) }
@@ -332,6 +343,9 @@ impl Solver {
     pub fn equate(&mut self, alloc: Global, a: &Ty, b: &Ty) -> Result<Result<(), Clash>, NoMemory>
         ensures solved { result ≡ Ok (Ok tt) → ArePlainIn self.old a.now b.now → (kinds : List ℕ) (eqs : List (Ty × Ty)) → IsSolved self.old kinds eqs → IsSolved self.new kinds ((a.now, b.now) ∷ eqs) }
         ensures clash { (clash : Clash) → result ≡ Ok (Err clash) → clash.scopes_only ≡ false → ArePlainIn self.old a.now b.now → (kinds : List ℕ) (eqs : List (Ty × Ty)) → IsSolved self.old kinds eqs → IsUnsolvable self.new kinds ((a.now, b.now) ∷ eqs) }
+        ensures scoped { result ≡ Ok (Ok tt) → ArePlainIn self.old a.now b.now → (kinds : List ℕ) (scopes : List (List Ident)) (eqs : List (Ty × Ty)) → IsScopedSolved self.old kinds scopes eqs → IsScopedSolved self.new kinds scopes ((a.now, b.now) ∷ eqs) }
+        ensures refused { (clash : Clash) → result ≡ Ok (Err clash) → ArePlainIn self.old a.now b.now → (kinds : List ℕ) (scopes : List (List Ident)) (eqs : List (Ty × Ty)) → IsScopedSolved self.old kinds scopes eqs → IsScopedUnsolvable self.new kinds scopes ((a.now, b.now) ∷ eqs) }
+        ensures ignored { (clash : Clash) → result ≡ Ok (Err clash) → clash.scopes_only ≡ true → ArePlainIn self.old a.now b.now → (kinds : List ℕ) (eqs : List (Ty × Ty)) → IsSolved self.old kinds eqs → IsSolvable self.new kinds ((a.now, b.now) ∷ eqs) }
         ensures opened { result ≡ Ok (Ok tt) → HaveRigidsOf self.old self.new → HaveAllRigids self.new }
         ensures plain { (clash : Clash) → result ≡ Ok (Err clash) → self.old.clash ≡ None → ArePlainIn self.old a.now b.now → HaveRigidsOf self.old self.new → clash.scopes_only ≡ false }
         ensures stays { (clash : Clash) → self.old.clash ≡ Some clash → (self.new.clash ≡ Some clash) × IfOk result (λ r. r ≡ Err clash) }

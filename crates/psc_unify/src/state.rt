@@ -1,7 +1,7 @@
 // What a solver has: the graph, the scopes of its unknowns, and the names of what stands in it.
-ghost use Rattle.std.specs.Prelude.{◌≡◌, ℕ, ◌<◌, List, [], ◌∷◌, ◌++◌, length, OnOk, IfOk, IfSome, true, slice_get, Some};
-ghost use Rattle.psc_scopes.specs.Scope.{Holds, Rises, AreOpen};
-ghost use Rattle.psc_unify.specs.Tables.{AreAmong, HasNumbers};
+ghost use Rattle.std.specs.Prelude.{◌≡◌, ℕ, ◌<◌, ◌≤◌, List, [], ◌∷◌, ◌++◌, length, get_or, OnOk, IfOk, IfSome, true, slice_get, slice_set, Some};
+ghost use Rattle.psc_scopes.specs.Scope.{Holds, Rises, AllRise, AreOpen, Extends};
+ghost use Rattle.psc_unify.specs.Tables.{AreAmong, HasNumbers, AreNumbersOf, IsScopeOf};
 ghost use Rattle.psc_type.specs.declared.ty.Ty.{Ty};
 ghost use Rattle.psc_unify.specs.Solved.{Stands, Continues};
 ghost use Rattle.psc_unify.specs.Reading.{place_of};
@@ -54,11 +54,36 @@ fn made_number(unknowns: &[usize], place: usize) -> Option<u64>
     }
 }
 
+/// Gives the first places a scope, where they have none. What the scopes were before is forgotten.
+fn cover_places(bounds: &mut Bounds, count: usize) -> Result<(), NoMemory>
+    ensures exact { OnOk result (length bounds.old.scopes.items ≤ count → length bounds.new.scopes.items ≡ count) }
+    ensures zeros { OnOk result ((q : ℕ) → get_or bounds.new.scopes.items q 0 ≡ get_or bounds.old.scopes.items q 0) }
+{
+    bounds.keep();
+    match bounds.cover(count) {
+        Ok(()) => Ok(()),
+        Err(stop) => Err(no_memory(stop)),
+    }
+}
+
+/// Puts a scope at a place.
+fn put_scope(bounds: &mut Bounds, place: usize, scope: u64) -> Result<(), NoMemory>
+    ensures { OnOk result (bounds.new.scopes.items ≡ slice_set bounds.old.scopes.items place scope) }
+{
+    match bounds.put(place, scope) {
+        Ok(()) => Ok(()),
+        Err(stop) => Err(no_memory(stop)),
+    }
+}
+
 impl State {
     /// The state without unknowns.
     pub fn new(alloc: Global) -> Result<State, NoMemory>
         ensures stands { IfOk result (λ state. Stands state.graph state.names state.unknowns.items [] []) }
         ensures scopes { IfOk result (λ state. state.scopes.lists.items ≡ []) }
+        ensures bounds { IfOk result (λ state. state.bounds.scopes.items ≡ []) }
+        ensures nodes { IfOk result (λ state. state.graph.nodes.items ≡ []) }
+        ensures unknowns { IfOk result (λ state. state.unknowns.items ≡ []) }
     {
         let names = Names::new(alloc)?;
         let graph = Graph::new(alloc);
@@ -86,17 +111,17 @@ impl State {
         ensures number { IfOk result (λ number. number ≡ length self.old.unknowns.items) }
         ensures names { self.new.names ≡ self.old.names }
         ensures scopes { self.new.scopes ≡ self.old.scopes }
+        ensures pushed { OnOk result (self.new.graph.nodes.items ≡ self.old.graph.nodes.items ++ Node.Free kind ∷ []) }
+        ensures placed { OnOk result (self.new.unknowns.items ≡ self.old.unknowns.items ++ length self.old.graph.nodes.items ∷ []) }
+        ensures scoped { OnOk result (length self.old.bounds.scopes.items ≡ length self.old.graph.nodes.items → self.new.bounds.scopes.items ≡ self.old.bounds.scopes.items ++ scope ∷ []) }
         ensures stands { OnOk result ((kinds : List ℕ) (eqs : List (Ty × Ty)) → Stands self.old.graph self.old.names self.old.unknowns.items kinds eqs → Stands self.new.graph self.new.names self.new.unknowns.items (kinds ++ kind ∷ []) eqs) }
     {
         let place = push(&mut self.graph, Node::Free(kind))?;
         let number = self.unknowns.len() as u64;
         self.unknowns.push(place)?;
         self.numbers.insert(place, number)?;
-        self.bounds.keep();
-        self.bounds
-            .cover(self.graph.nodes.len())
-            .map_err(no_memory)?;
-        self.bounds.put(place, scope).map_err(no_memory)?;
+        cover_places(&mut self.bounds, self.graph.nodes.as_slice().len())?;
+        put_scope(&mut self.bounds, place, scope)?;
         Ok(number)
     }
 
@@ -125,6 +150,7 @@ fn name_at(names: &[Ident], at: usize) -> Option<&Ident>
 fn numbers_of(alloc: Global, names: &mut Names, rigid: &[Ident]) -> Result<Vec<u64>, NoMemory>
     ensures names { OnOk result (Continues names.old names.new) }
     ensures numbers { IfOk result (λ list. HasNumbers names.new.rigids.rows.items rigid.now (length rigid.now) list.items) }
+    ensures only { IfOk result (λ list. AreNumbersOf names.new.rigids.rows.items rigid.now list.items) }
 {
     let mut list = Vec::new(alloc);
     for index in 0..rigid.len() {
@@ -140,6 +166,7 @@ fn numbers_of(alloc: Global, names: &mut Names, rigid: &[Ident]) -> Result<Vec<u
 fn sort(list: &mut Vec<u64>) -> Result<(), NoMemory>
     ensures rises { OnOk result (Rises list.new.items) }
     ensures holds { OnOk result ((r : ℕ) → Holds list.old.items r → Holds list.new.items r) }
+    ensures only { OnOk result ((r : ℕ) → Holds list.new.items r → Holds list.old.items r) }
 {
     list.sort()?;
     Ok(())
@@ -154,6 +181,9 @@ pub fn scope_number(
     last: u64,
 ) -> Result<u64, NoMemory>
     ensures names { OnOk result (Continues names.old names.new) }
+    ensures given { IfOk result (λ scope. IsScopeOf scopes.new.lists.items names.new.rigids.rows.items rigid.now scope) }
+    ensures kept { OnOk result (Extends scopes.old.lists.items scopes.new.lists.items) }
+    ensures rise { OnOk result (AllRise scopes.old.lists.items → AllRise scopes.new.lists.items) }
     ensures opened { OnOk result (AreOpen scopes.old.lists.items (length names.new.rigids.rows.items) → AreAmong names.new.rigids.rows.items rigid.now → AreOpen scopes.new.lists.items (length names.new.rigids.rows.items)) }
 {
     let mut list = numbers_of(alloc, names, rigid)?;

@@ -137,15 +137,17 @@ fn balanced(alloc: Global, levels: u32, leaf: u64) -> anyhow::Result<Ty> {
     Ok(whole)
 }
 
-/// Two types of 65,533 nodes, equated 50,000 times.
+/// Two types of 65,535 nodes, equated 50,000 times.
 fn large_twice(alloc: Global) -> anyhow::Result<()> {
     let mut solver = start(alloc)?;
     let leaf = fresh(alloc, &mut solver)?;
     let other = fresh(alloc, &mut solver)?;
     let one = fresh(alloc, &mut solver)?;
     let two = fresh(alloc, &mut solver)?;
-    let left = balanced(alloc, 14, leaf)?;
-    let right = balanced(alloc, 14, other)?;
+    let left_pairs = balanced(alloc, 14, leaf)?;
+    let right_pairs = balanced(alloc, 14, other)?;
+    let left = array(alloc, left_pairs)?;
+    let right = array(alloc, right_pairs)?;
     equal(alloc, &mut solver, &Ty::Unknown(one), &left)?;
     equal(alloc, &mut solver, &Ty::Unknown(two), &right)?;
     for _ in 0..50_000 {
@@ -300,7 +302,7 @@ fn solve_case(alloc: Global, number: u32) -> anyhow::Result<Option<&'static str>
         }
         4 => {
             large_twice(alloc)?;
-            Ok(Some("two types of 65,533 nodes, equated 50,000 times"))
+            Ok(Some("two types of 65,535 nodes, equated 50,000 times"))
         }
         5 => {
             towers(alloc)?;

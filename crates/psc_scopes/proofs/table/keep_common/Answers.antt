@@ -11,7 +11,7 @@ loop-index-init c = record {
   left = λ x h. none_common _ _ c.new-common.ensures.items x h;
   right = λ x h. none_common _ _ c.new-common.ensures.items x h;
   rises = λ up. gathers_none _ _ c.new-common.ensures.items;
-  both = λ n up below. kept_none _ _ n;
+  both = λ up. kept_none _ _ _;
 }
 
 pub loop-index-preserved : goal.loop-index-preserved
@@ -21,20 +21,23 @@ loop-index-preserved c = elim c.if-is_in.branch [
         left = λ x h. common_more _ _ _ _ _ c.in-Some.ensures is c.loop-index.invariant.left x h;
         right = λ x h. common_found _ _ _ _ (c.is_in.ensures.yes w.if-is_in.true) is c.loop-index.invariant.right x h;
         rises = λ up. gathers_more _ _ _ _ c.in-Some.ensures up (c.loop-index.invariant.rises up) _ is;
-        both = λ n up below. kept_more _ _ _ _ _ n c.in-Some.ensures is (c.loop-index.invariant.both n up below);
+        both = λ up. kept_more _ _ _ _ _ _ c.in-Some.ensures is (c.loop-index.invariant.both up);
       })
   | else-is_in w ↦ record {
     left = λ x h. c.loop-index.invariant.left x (subst (λ (v : Vec ℕ Global). Holds v.items x) w.common-is h);
     right = λ x h. c.loop-index.invariant.right x (subst (λ (v : Vec ℕ Global). Holds v.items x) w.common-is h);
     rises = λ up. subst (λ (v : Vec ℕ Global). Gathers v.items c.args.left.now (c.loop-index.index + 1)) (sym w.common-is) (gathers_past _ _ _ (c.loop-index.invariant.rises up));
-    both = λ n up below.
-        subst (λ (v : Vec ℕ Global). FirstKept c.args.left.now v.items (c.loop-index.index + 1) n) (sym w.common-is)
-        (kept_past _ _ _ _ _ n c.in-Some.ensures (λ h. c.is_in.ensures.no w.if-is_in.false up h) below (c.loop-index.invariant.both n up below));
+    both = λ up.
+        subst (λ (v : Vec ℕ Global). FirstKept c.args.left.now c.args.right.now v.items (c.loop-index.index + 1)) (sym w.common-is)
+        (kept_past _ _ _ _ _ c.in-Some.ensures (λ h. c.is_in.ensures.no w.if-is_in.false up h) (c.loop-index.invariant.both up));
   }
 ]
 
 pub returns-clause-rises : goal.returns-clause-rises
 returns-clause-rises c = λ up. (c.loop-index.invariant.rises up).rise
 
+pub returns-clause-common : goal.returns-clause-common
+returns-clause-common c = λ r up one two. kept_all _ _ _ c.loop-index.index c.loop-index-test.false (c.loop-index.invariant.both up) r one two
+
 pub returns-clause-both : goal.returns-clause-both
-returns-clause-both c = λ n up one two. kept_all _ _ c.loop-index.index n c.loop-index-test.false (c.loop-index.invariant.both n up two) one
+returns-clause-both c = λ n up one two r low. kept_all _ _ _ c.loop-index.index c.loop-index-test.false (c.loop-index.invariant.both up) r (one r low) (two r low)

@@ -1,18 +1,16 @@
-use Rattle.std.proofs.Common.{Err, List, ap, sym, subst}
-use Rattle.psc_graph.specs.declared.node.Node.{Node}
-use Rattle.psc_scopes.specs.declared.table.ScopeTable.{ScopeTable}
-use Rattle.psc_scopes.specs.Scope.{AreOpen, HasBeyond}
-use Rattle.psc_scopes.proofs.Scopes.{passed}
+use Rattle.psc_unify.proofs.Small.{on_ok}
+use Rattle.psc_unify.proofs.Narrowing.{narrows_covered, keeps_covered, escapes_covered, narrowed_covered}
 use Rattle.psc_unify.proofs.equate.narrow_written.Goals as goal
-use Rattle.psc_unify.proofs.equate.narrow_written.Goals.{in-Free+in_ok-narrow, in_default-node}
 
-pub returns-in_err-narrow-clause-clash : goal.returns-in_err-narrow-clause-clash
-returns-in_err-narrow-clause-clash c = λ e n wide.
-    subst (λ (l : List Node). HasBeyond l n) c.as_slice.ensures.value
-    (c.in_err-narrow.ensures.clash (ap (λ s. Err s) (passed _ _ _ c.from_residual-in_err-narrow.ensures.1 e)) n (c.loop-index.invariant n wide))
+pub returns-clause-narrows : goal.returns-clause-narrows
+returns-clause-narrows c = on_ok _ (λ h. narrows_covered _ _ _ _ _ _ _ c.as_slice-nodes.ensures.value c.in-Ok.ensures.zeros c.in-Ok.ensures.longer h) c.narrow_writes.ensures.narrows
 
-pub loop-index-preserved : goal.loop-index-preserved
-loop-index-preserved c = λ n wide. elim c.match-write.branch [
-  | in-Free+in_ok-narrow w ↦ subst (λ (t : ScopeTable). AreOpen t.lists.items n) (sym w.scopes-is) (w.in_ok-narrow.ensures.opened n (c.loop-index.invariant n wide))
-  | in_default-node w ↦ subst (λ (t : ScopeTable). AreOpen t.lists.items n) (sym w.scopes-is) (c.loop-index.invariant n wide)
-]
+pub returns-clause-keeps : goal.returns-clause-keeps
+returns-clause-keeps c = on_ok _ (λ h. keeps_covered _ _ _ _ _ _ _ c.as_slice-nodes.ensures.value c.in-Ok.ensures.zeros c.in-Ok.ensures.longer h) c.narrow_writes.ensures.keeps
+
+pub returns-clause-escapes : goal.returns-clause-escapes
+returns-clause-escapes c = λ e. escapes_covered _ _ _ c.args.scopes.now.lists.items _ _ c.args.bounds.now.scopes.items c.as_slice-nodes.ensures.value c.in-Ok.ensures.zeros c.in-Ok.ensures.longer (c.narrow_writes.ensures.escapes e)
+
+pub returns-clause-narrowed : goal.returns-clause-narrowed
+returns-clause-narrowed c =
+    on_ok _ (λ h. narrowed_covered _ _ _ _ _ _ _ c.as_slice-nodes.ensures.value c.in-Ok.ensures.zeros c.in-Ok.ensures.longer _ _ c.as_slice.ensures.value c.in-Ok.ensures.covered h) c.narrow_writes.ensures.narrowed

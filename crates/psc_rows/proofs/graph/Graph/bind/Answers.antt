@@ -1,7 +1,8 @@
-use Rattle.std.proofs.Common.{ap, sym, ◌∙◌, drop, length, subst, Bool, Ok, slice_get}
+use Rattle.std.proofs.Common.{ap, refl, sym, ◌∙◌, drop, length, subst, Bool, Ok, slice_get}
 use Rattle.psc_graph.specs.Settled.{IsApart}
 use Rattle.psc_rows.proofs.BoundLemmas.{linked_write}
 use Rattle.psc_rows.proofs.StepLemmas.{written-whole, steps_bound, bound_clash}
+use Rattle.psc_rows.proofs.WriteLemmas.{remembers_bound}
 use Rattle.psc_rows.proofs.graph.Graph.bind.Goals as goal
 
 pub returns-in-Ok-clause-steps : goal.returns-in-Ok-clause-steps
@@ -17,6 +18,12 @@ returns-in-Err-clause-clash c = λ e.
     bound_clash _ c.as_mut_slice.result.now c.bind.new.nodes _ c.as_slice.result.now _
     (c.as_mut_slice.ensures.value ∙ ap (λ v. v.items) c.in_ok-remember.ensures.nodes) c.as_slice.ensures.value (ap (λ v. v.items) c.in_ok-remember.ensures.kinds) c.bind.auto.nodes
     _ _ (c.in-Err.ensures.clash e)
+
+pub returns-in-Ok-clause-remembers : goal.returns-in-Ok-clause-remembers
+returns-in-Ok-clause-remembers c =
+    let is = written-whole c.remember.new.self.nodes.len c.bind.new.nodes (drop (length c.bind.new.nodes) c.remember.new.self.nodes.items) (sym c.as_mut_slice.ensures.len ∙ sym c.bind.auto.nodes) in
+    remembers_bound _ _ _ c.as_mut_slice.result.now c.bind.new.nodes c.args.unknown c.args.kind c.args.to
+    (c.as_mut_slice.ensures.value ∙ ap (λ v. v.items) c.in_ok-remember.ensures.nodes) is c.in-Ok.ensures.written c.in_ok-remember.ensures.writes refl refl c.requires.free
 
 pub invariant_of-self : goal.invariant_of-self
 invariant_of-self c =

@@ -1,6 +1,7 @@
 use Rattle.std.proofs.Common.{ap, sym, ◌∙◌, drop, length}
 use Rattle.psc_rows.proofs.StepLemmas.{written-whole, steps_merged}
 use Rattle.psc_rows.proofs.BoundLemmas.{kept_write}
+use Rattle.psc_rows.proofs.WriteLemmas.{remembers_kept}
 use Rattle.psc_rows.proofs.graph.Graph.skip.Goals as goal
 
 pub returns-clause-steps : goal.returns-clause-steps
@@ -10,6 +11,12 @@ returns-clause-steps c =
     (steps_merged _ c.as_mut_slice.result.now _ _ _
     (c.as_mut_slice.ensures.value ∙ ap (λ v. v.items) c.in_ok-remember.ensures.nodes) (ap (λ v. v.items) c.in_ok-remember.ensures.kinds) c.skip.auto.nodes
     c.skip.ensures.sound c.skip.ensures.complete c.skip.ensures.general)
+
+pub returns-clause-remembers : goal.returns-clause-remembers
+returns-clause-remembers c =
+    let is = written-whole c.remember.new.self.nodes.len c.skip.new.nodes (drop (length c.skip.new.nodes) c.remember.new.self.nodes.items) (sym c.as_mut_slice.ensures.len ∙ sym c.skip.auto.nodes) in
+    remembers_kept _ _ _ c.as_mut_slice.result.now c.skip.new.nodes
+    (c.as_mut_slice.ensures.value ∙ ap (λ v. v.items) c.in_ok-remember.ensures.nodes) is c.in_ok-remember.ensures.writes c.skip.ensures.unknowns
 
 pub invariant_of-self : goal.invariant_of-self
 invariant_of-self c =
