@@ -78,13 +78,13 @@ all_done json keeps done whole h = sym (h.joined ∙ ap (λ l. done ++ l) (none_
 
 -- ---- one value after another
 
-first_of : {V : Type 0} (values : List V) (i : ℕ) (v : V) → i < length values → v ≡ get_or values i v → drop i values ≡ v ∷ drop (i + 1) values
-first_of values i v lt is =
+first_of : {B : Type 0} (values : List B) (i : ℕ) (v : B) → i < length values → v ≡ get_or values i v → drop i values ≡ v ∷ drop (i + 1) values
+first_of {B = B} values i v lt is =
     let next : suc i ≡ i + 1 = omega arith in
-    drop-cons values i v lt ∙ ap₂ (λ x (l : List V). x ∷ l) (sym is) (ap (λ n. drop n values) next)
+    drop-cons values i v lt ∙ ap₂ (λ x (l : List B). x ∷ l) (sym is) (ap (λ n. drop n values) next)
 
 -- the row that the value at this place is of
-pub row_at : {A V : Type 0} (json : A → Data) (keeps : A → Bool) (f : V → Data) (values : List V) (i : ℕ) (v : V) (done whole : List A) → i < length values → v ≡ get_or values i v → IsLeft json keeps done whole (map f (drop i values)) → IsNext json keeps done whole (f v) (map f (drop (i + 1) values))
+pub row_at : {A B : Type 0} (json : A → Data) (keeps : A → Bool) (f : B → Data) (values : List B) (i : ℕ) (v : B) (done whole : List A) → i < length values → v ≡ get_or values i v → IsLeft json keeps done whole (map f (drop i values)) → IsNext json keeps done whole (f v) (map f (drop (i + 1) values))
 row_at json keeps f values i v done whole lt is h =
     next_row json keeps done whole (f v) (map f (drop (i + 1) values)) (subst (λ l. IsLeft json keeps done whole (map f l)) (first_of values i v lt is) h)
 
@@ -99,5 +99,5 @@ pub not_lost : {A : Type 0} (json : A → Data) (keeps : A → Bool) (done whole
 not_lost json keeps done whole d ds n read = none-some n.row (read n.row n.row_kept n.is_row)
 
 -- all rows are read where no value is left
-pub all_read : {A V : Type 0} (json : A → Data) (keeps : A → Bool) (f : V → Data) (values : List V) (i : ℕ) (done whole : List A) → length values ≤ i → IsLeft json keeps done whole (map f (drop i values)) → done ≡ whole
+pub all_read : {A B : Type 0} (json : A → Data) (keeps : A → Bool) (f : B → Data) (values : List B) (i : ℕ) (done whole : List A) → length values ≤ i → IsLeft json keeps done whole (map f (drop i values)) → done ≡ whole
 all_read json keeps f values i done whole le h = all_done json keeps done whole (subst (λ l. IsLeft json keeps done whole (map f l)) (drop_all i values le) h)
