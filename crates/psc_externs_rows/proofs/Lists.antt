@@ -1,12 +1,12 @@
 -- Lists of rows, one row after another.
-use Rattle.std.proofs.Common.{◌≡◌, ℕ, suc, ◌+◌, ◌<◌, ◌≤◌, Bool, true, ◌&&◌, List, [], ◌∷◌, ◌++◌, length, map, drop, drop-cons, get_or, Option, Some, None, refl, sym, ap, ap₂, ◌∙◌, subst, append_assoc, append-nil, arith}
+use Rattle.std.proofs.Common.{◌≡◌, ℕ, suc, ◌+◌, ◌<◌, ◌≤◌, Bool, true, false, ◌&&◌, Result, Ok, Err, IfOk, List, [], ◌∷◌, ◌++◌, length, map, drop, drop-cons, get_or, Option, Some, None, refl, sym, ap, ap₂, ◌∙◌, subst, append_assoc, append-nil, arith}
 use Rattle.std.proofs.lemmas.Bool.{and_parts}
 use Rattle.std.proofs.lemmas.List.{drop_all}
 use Rattle.std.proofs.lemmas.Option.{none-some, same_Some}
 use Rattle.std.specs.List.{list_all}
 use Rattle.serde_json.specs.Data.{Data}
 use Rattle.serde_json.specs.View.{items_of}
-use Rattle.serde_json.proofs.Views.{view-Array}
+use Rattle.serde_json.proofs.Views.{view-Array, view-Object}
 
 pub all-push : {A : Type 0} (f : A → Bool) (xs : List A) (x : A) → list_all f xs ≡ true → f x ≡ true → list_all f (xs ++ x ∷ []) ≡ true
 all-push f [] x h k = ap (λ b. b && true) k
@@ -15,6 +15,17 @@ all-push f (y ∷ ys) x h k =
     ap (λ b. b && list_all f (ys ++ x ∷ [])) p.0 ∙ all-push f ys x p.1 k
 
 pub ruleset pushes = (all-push, view-Array)
+
+pub ruleset objects = (view-Object)
+
+and-true : (b : Bool) → (b && true) ≡ b
+and-true true = refl
+and-true false = refl
+
+-- four that are kept are kept one by one
+pub four_kept : {A T E : Type 0} (keeps : A → Bool) (r : Result T E) (x y z w : A) → IfOk r (λ _. list_all keeps (x ∷ y ∷ z ∷ w ∷ []) ≡ true) → IfOk r (λ _. (keeps x && (keeps y && (keeps z && keeps w))) ≡ true)
+four_kept keeps (Ok v) x y z w h = ap (λ b. keeps x && (keeps y && (keeps z && b))) (sym (and-true (keeps w))) ∙ h
+four_kept keeps (Err e) x y z w h = tt
 
 -- equal arrays have equal items
 pub items-same : (a b : List Data) → items_of a ≡ items_of b → a ≡ b
