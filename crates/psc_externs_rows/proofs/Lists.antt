@@ -5,8 +5,10 @@ use Rattle.std.proofs.lemmas.List.{drop_all}
 use Rattle.std.proofs.lemmas.Option.{none-some, same_Some}
 use Rattle.std.specs.List.{list_all}
 use Rattle.serde_json.specs.Data.{Data}
+use Rattle.serde_json.specs.Find.{as_array}
 use Rattle.serde_json.specs.View.{items_of}
 use Rattle.serde_json.proofs.Views.{view-Array, view-Object}
+use Rattle.psc_externs_rows.specs.Rows.{list_of}
 
 pub all-push : {A : Type 0} (f : A → Bool) (xs : List A) (x : A) → list_all f xs ≡ true → f x ≡ true → list_all f (xs ++ x ∷ []) ≡ true
 all-push f [] x h k = ap (λ b. b && true) k
@@ -112,3 +114,8 @@ not_lost json keeps done whole d ds n read = none-some n.row (read n.row n.row_k
 -- all rows are read where no value is left
 pub all_read : {A B : Type 0} (json : A → Data) (keeps : A → Bool) (f : B → Data) (values : List B) (i : ℕ) (done whole : List A) → length values ≤ i → IsLeft json keeps done whole (map f (drop i values)) → done ≡ whole
 all_read json keeps f values i done whole le h = all_done json keeps done whole (subst (λ l. IsLeft json keeps done whole (map f l)) (drop_all i values le) h)
+
+-- a list is read of its array
+pub list_read : {A E : Type 0} (json : A → Data) (keeps : A → Bool) (r : Result (Option (List A)) E) (ds : List Data) (d : Data) → Some (items_of ds) ≡ as_array d → IfOk r (λ o. (xs : List A) → list_all keeps xs ≡ true → ds ≡ map json xs → o ≡ Some xs) → IfOk r (λ o. (xs : List A) → list_all keeps xs ≡ true → d ≡ list_of json xs → o ≡ Some xs)
+list_read json keeps (Ok o) ds d a f = λ xs k e. f xs k (items-same ds (map json xs) (same_Some (items_of ds) (items_of (map json xs)) (a ∙ ap as_array e)))
+list_read json keeps (Err x) ds d a f = tt
