@@ -1,6 +1,6 @@
 -- Which types, kinds and constraints may stand in an interface file: they have no unknown and no
 -- `$any`, each name of theirs that another module may have has its module, and no other has a dot.
-use Rattle.std.specs.Prelude.{Bool, true, false, not, ◌&&◌, List, [], ◌∷◌}
+use Rattle.std.specs.Prelude.{Bool, true, false, not, ◌&&◌, List}
 use Rattle.std.specs.List.{list_all}
 use Rattle.psc_type.specs.Closed.{is_known_kind, all_true}
 use Rattle.psc_type.specs.declared.kind.Kind.{Kind}

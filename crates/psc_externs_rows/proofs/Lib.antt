@@ -1,2 +1,2 @@
+pub mod KeptNames
 pub mod Lists
-pub mod Names

@@ -1,12 +1,14 @@
 -- Lists of rows, one row after another.
-use Rattle.std.proofs.Common.{◌≡◌, ℕ, suc, ◌+◌, ◌<◌, ◌≤◌, Bool, true, ◌&&◌, List, [], ◌∷◌, ◌++◌, length, map, drop, drop-cons, get_or, Option, Some, None, refl, sym, ap, ap₂, ◌∙◌, subst, append_assoc, append-nil, arith}
+use Rattle.std.proofs.Common.{◌≡◌, ℕ, suc, ◌+◌, ◌<◌, ◌≤◌, Bool, true, false, ◌&&◌, Result, Ok, Err, IfOk, List, [], ◌∷◌, ◌++◌, length, map, drop, drop-cons, get_or, Option, Some, None, refl, sym, ap, ap₂, ◌∙◌, subst, append_assoc, append-nil, arith}
 use Rattle.std.proofs.lemmas.Bool.{and_parts}
 use Rattle.std.proofs.lemmas.List.{drop_all}
 use Rattle.std.proofs.lemmas.Option.{none-some, same_Some}
 use Rattle.std.specs.List.{list_all}
 use Rattle.serde_json.specs.Data.{Data}
+use Rattle.serde_json.specs.Find.{as_array}
 use Rattle.serde_json.specs.View.{items_of}
-use Rattle.serde_json.proofs.Views.{view-Array}
+use Rattle.serde_json.proofs.Views.{view-Array, view-Object}
+use Rattle.psc_externs_rows.specs.Rows.{list_of}
 
 pub all-push : {A : Type 0} (f : A → Bool) (xs : List A) (x : A) → list_all f xs ≡ true → f x ≡ true → list_all f (xs ++ x ∷ []) ≡ true
 all-push f [] x h k = ap (λ b. b && true) k
@@ -15,6 +17,17 @@ all-push f (y ∷ ys) x h k =
     ap (λ b. b && list_all f (ys ++ x ∷ [])) p.0 ∙ all-push f ys x p.1 k
 
 pub ruleset pushes = (all-push, view-Array)
+
+pub ruleset objects = (view-Object)
+
+and-true : (b : Bool) → (b && true) ≡ b
+and-true true = refl
+and-true false = refl
+
+-- four that are kept are kept one by one
+pub four_kept : {A T E : Type 0} (keeps : A → Bool) (r : Result T E) (x y z w : A) → IfOk r (λ _. list_all keeps (x ∷ y ∷ z ∷ w ∷ []) ≡ true) → IfOk r (λ _. (keeps x && (keeps y && (keeps z && keeps w))) ≡ true)
+four_kept keeps (Ok v) x y z w h = ap (λ b. keeps x && (keeps y && (keeps z && b))) (sym (and-true (keeps w))) ∙ h
+four_kept keeps (Err e) x y z w h = tt
 
 -- equal arrays have equal items
 pub items-same : (a b : List Data) → items_of a ≡ items_of b → a ≡ b
@@ -78,13 +91,13 @@ all_done json keeps done whole h = sym (h.joined ∙ ap (λ l. done ++ l) (none_
 
 -- ---- one value after another
 
-first_of : {V : Type 0} (values : List V) (i : ℕ) (v : V) → i < length values → v ≡ get_or values i v → drop i values ≡ v ∷ drop (i + 1) values
-first_of values i v lt is =
+first_of : {B : Type 0} (values : List B) (i : ℕ) (v : B) → i < length values → v ≡ get_or values i v → drop i values ≡ v ∷ drop (i + 1) values
+first_of {B = B} values i v lt is =
     let next : suc i ≡ i + 1 = omega arith in
-    drop-cons values i v lt ∙ ap₂ (λ x (l : List V). x ∷ l) (sym is) (ap (λ n. drop n values) next)
+    drop-cons values i v lt ∙ ap₂ (λ x (l : List B). x ∷ l) (sym is) (ap (λ n. drop n values) next)
 
 -- the row that the value at this place is of
-pub row_at : {A V : Type 0} (json : A → Data) (keeps : A → Bool) (f : V → Data) (values : List V) (i : ℕ) (v : V) (done whole : List A) → i < length values → v ≡ get_or values i v → IsLeft json keeps done whole (map f (drop i values)) → IsNext json keeps done whole (f v) (map f (drop (i + 1) values))
+pub row_at : {A B : Type 0} (json : A → Data) (keeps : A → Bool) (f : B → Data) (values : List B) (i : ℕ) (v : B) (done whole : List A) → i < length values → v ≡ get_or values i v → IsLeft json keeps done whole (map f (drop i values)) → IsNext json keeps done whole (f v) (map f (drop (i + 1) values))
 row_at json keeps f values i v done whole lt is h =
     next_row json keeps done whole (f v) (map f (drop (i + 1) values)) (subst (λ l. IsLeft json keeps done whole (map f l)) (first_of values i v lt is) h)
 
@@ -99,5 +112,10 @@ pub not_lost : {A : Type 0} (json : A → Data) (keeps : A → Bool) (done whole
 not_lost json keeps done whole d ds n read = none-some n.row (read n.row n.row_kept n.is_row)
 
 -- all rows are read where no value is left
-pub all_read : {A V : Type 0} (json : A → Data) (keeps : A → Bool) (f : V → Data) (values : List V) (i : ℕ) (done whole : List A) → length values ≤ i → IsLeft json keeps done whole (map f (drop i values)) → done ≡ whole
+pub all_read : {A B : Type 0} (json : A → Data) (keeps : A → Bool) (f : B → Data) (values : List B) (i : ℕ) (done whole : List A) → length values ≤ i → IsLeft json keeps done whole (map f (drop i values)) → done ≡ whole
 all_read json keeps f values i done whole le h = all_done json keeps done whole (subst (λ l. IsLeft json keeps done whole (map f l)) (drop_all i values le) h)
+
+-- a list is read of its array
+pub list_read : {A E : Type 0} (json : A → Data) (keeps : A → Bool) (r : Result (Option (List A)) E) (ds : List Data) (d : Data) → Some (items_of ds) ≡ as_array d → IfOk r (λ o. (xs : List A) → list_all keeps xs ≡ true → ds ≡ map json xs → o ≡ Some xs) → IfOk r (λ o. (xs : List A) → list_all keeps xs ≡ true → d ≡ list_of json xs → o ≡ Some xs)
+list_read json keeps (Ok o) ds d a f = λ xs k e. f xs k (items-same ds (map json xs) (same_Some (items_of ds) (items_of (map json xs)) (a ∙ ap as_array e)))
+list_read json keeps (Err x) ds d a f = tt

@@ -6,11 +6,11 @@ ghost use Rattle.psc_externs.specs.declared.rows.Dependency.{Dependency};
 ghost use Rattle.psc_externs.specs.declared.rows.Param.{Param};
 
 use crate::kept::kept_name;
-use crate::row::{Row, list_member, list_part, list_value, member, part};
+use crate::row::{Row, list_member, list_part, list_value, member, part, with_row, with_rows};
 use psc_externs::{ClassRow, Dependency, ExternConstraint, ExternKind, Name, Param};
 use psc_items::SharedItems;
 use psc_text::NoMemory;
-use serde_json::{Value, json};
+use serde_json::{Map, Value, json};
 use std::alloc::Global;
 
 impl Row for Param {
@@ -83,18 +83,15 @@ impl Row for ClassRow {
 
     ghost keeps = { kept.keeps_class };
 
+    #[tactic(auto, using(crate::proofs::Lists::objects))]
     fn value(&self, alloc: Global) -> Result<Value, NoMemory> {
-        let deps = list_value(alloc, self.deps.as_slice())?;
-        let members = list_value(alloc, self.members.as_slice())?;
-        let params = list_value(alloc, self.params.as_slice())?;
-        let supers = list_value(alloc, self.supers.as_slice())?;
-        Ok(json!(in alloc; {
-            "deps": deps,
-            "members": members,
-            "name": kept_name(&self.name),
-            "params": params,
-            "supers": supers
-        })?)
+        let object = Map::new(alloc);
+        let object = with_rows(alloc, object, "deps", self.deps.as_slice())?;
+        let object = with_rows(alloc, object, "members", self.members.as_slice())?;
+        let object = with_row(alloc, object, "name", &self.name)?;
+        let object = with_rows(alloc, object, "params", self.params.as_slice())?;
+        let object = with_rows(alloc, object, "supers", self.supers.as_slice())?;
+        Ok(Value::Object(object))
     }
 
     fn read(alloc: Global, value: &Value) -> Result<Option<ClassRow>, NoMemory> {

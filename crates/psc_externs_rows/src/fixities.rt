@@ -3,11 +3,10 @@
 ghost use Rattle.std.specs.Prelude.{◌≡◌, Some};
 ghost use Rattle.psc_externs.specs.declared.rows.FixityRow.{FixityRow};
 
-use crate::kept::kept_op;
-use crate::row::{Row, member};
+use crate::row::{Row, member, with_row};
 use psc_externs::{Assoc, FixityRow, OpSpace, TrueName};
 use psc_text::{NoMemory, OpName};
-use serde_json::{Value, json};
+use serde_json::{Map, Value};
 use std::alloc::Global;
 
 impl Row for FixityRow {
@@ -18,18 +17,15 @@ impl Row for FixityRow {
 
     ghost keeps = { kept.keeps_fixity };
 
+    #[tactic(auto, using(crate::proofs::Lists::objects))]
     fn value(&self, alloc: Global) -> Result<Value, NoMemory> {
-        let assoc = self.assoc.value(alloc)?;
-        let precedence = self.precedence.value(alloc)?;
-        let space = self.space.value(alloc)?;
-        let target = self.target.value(alloc)?;
-        Ok(json!(in alloc; {
-            "assoc": assoc,
-            "op": kept_op(&self.op),
-            "precedence": precedence,
-            "space": space,
-            "target": target
-        })?)
+        let object = Map::new(alloc);
+        let object = with_row(alloc, object, "assoc", &self.assoc)?;
+        let object = with_row(alloc, object, "op", &self.op)?;
+        let object = with_row(alloc, object, "precedence", &self.precedence)?;
+        let object = with_row(alloc, object, "space", &self.space)?;
+        let object = with_row(alloc, object, "target", &self.target)?;
+        Ok(Value::Object(object))
     }
 
     fn read(alloc: Global, value: &Value) -> Result<Option<FixityRow>, NoMemory> {

@@ -5,11 +5,11 @@ ghost use Rattle.psc_externs.specs.declared.rows.InstanceRow.{InstanceRow};
 ghost use Rattle.psc_externs.specs.declared.rows.SynonymRow.{SynonymRow};
 
 use crate::kept::kept_name;
-use crate::row::{Row, list_member, list_value, member};
+use crate::row::{Row, list_member, list_value, member, with_row, with_rows};
 use psc_externs::{ExternConstraint, ExternType, InstanceRow, Name, Param, SynonymRow, TrueName};
 use psc_items::SharedItems;
 use psc_text::NoMemory;
-use serde_json::{Value, json};
+use serde_json::{Map, Value, json};
 use std::alloc::Global;
 
 impl Row for InstanceRow {
@@ -20,21 +20,17 @@ impl Row for InstanceRow {
 
     ghost keeps = { kept.keeps_instance };
 
+    #[tactic(auto, using(crate::proofs::Lists::objects))]
     fn value(&self, alloc: Global) -> Result<Value, NoMemory> {
-        let class = self.class.value(alloc)?;
-        let index = self.index.value(alloc)?;
-        let context = list_value(alloc, self.context.as_slice())?;
-        let head = list_value(alloc, self.head.as_slice())?;
-        let vars = list_value(alloc, self.vars.as_slice())?;
-        Ok(json!(in alloc; {
-            "chain": kept_name(&self.chain),
-            "class": class,
-            "context": context,
-            "head": head,
-            "index": index,
-            "name": kept_name(&self.name),
-            "vars": vars
-        })?)
+        let object = Map::new(alloc);
+        let object = with_row(alloc, object, "chain", &self.chain)?;
+        let object = with_row(alloc, object, "class", &self.class)?;
+        let object = with_rows(alloc, object, "context", self.context.as_slice())?;
+        let object = with_rows(alloc, object, "head", self.head.as_slice())?;
+        let object = with_row(alloc, object, "index", &self.index)?;
+        let object = with_row(alloc, object, "name", &self.name)?;
+        let object = with_rows(alloc, object, "vars", self.vars.as_slice())?;
+        Ok(Value::Object(object))
     }
 
     fn read(alloc: Global, value: &Value) -> Result<Option<InstanceRow>, NoMemory> {

@@ -24,7 +24,7 @@ pub(crate) fn kept_name(name: &Name) -> &str
     kept_text(name.text().as_str())
 }
 
-pub fn kept_module(name: &ModuleName) -> &str
+pub(crate) fn kept_module(name: &ModuleName) -> &str
     ensures same { result.now ≡ name.now }
     ensures kept { spec.keeps_module name.now ≡ true }
 {

@@ -15,5 +15,4 @@ mod row;
 mod spaces;
 mod types;
 
-pub use kept::kept_module;
-pub use row::{Row, list_member, list_value, member};
+pub use row::{Row, list_member, member, with_row, with_rows};

@@ -145,13 +145,19 @@ fn read_true_name(alloc: Global, text: &str) -> Result<Option<TrueName>, NoMemor
     ensures { IfOk result (λ o. (t : TrueName) → keeps_true_name t ≡ true → text.now ≡ rows.true_name_text t → o ≡ Some t) }
 {
     match cut_at_last_dot(text) {
-        Some((module, name)) => {
-            let module = read_module_name(alloc, module)?;
-            let name = Name::new(Text::new(alloc, name)?);
-            Ok(true_name_of(module, name))
-        }
+        Some((module, name)) => true_name_at(alloc, module, name),
         None => Ok(None),
     }
+}
+
+/// The name of the module that these texts spell.
+fn true_name_at(alloc: Global, module: &str, name: &str) -> Result<Option<TrueName>, NoMemory>
+    ensures { IfOk result (λ o. (t : TrueName) → keeps_true_name t ≡ true → «module».now ≡ t.«module» → name.now ≡ t.name → o ≡ Some t) }
+{
+    let module = read_module_name(alloc, module)?;
+    let text = Text::new(alloc, name)?;
+    let name = Name::new(text);
+    Ok(true_name_of(module, name))
 }
 
 fn true_name_of(module: Option<ModuleName>, name: Option<Name>) -> Option<TrueName>

@@ -6,7 +6,7 @@ ghost use Rattle.psc_externs.specs.declared.places.DeclRow.{DeclRow};
 ghost use Rattle.psc_externs.specs.declared.places.UseRow.{UseRow};
 
 use crate::kept::{kept_entity, kept_module};
-use crate::row::{Row, member, part};
+use crate::row::{Row, list_value, member, part};
 use crate::spaces::{entity_of, space_word};
 use psc_externs::{DeclRow, Entity, UseRow};
 use psc_text::{ModuleName, NoMemory, Span};
@@ -22,11 +22,10 @@ impl Row for Span {
     ghost keeps = { kept.keeps_span };
 
     fn value(&self, alloc: Global) -> Result<Value, NoMemory> {
-        let line = self.line.value(alloc)?;
-        let column = self.column.value(alloc)?;
-        let end_line = self.end_line.value(alloc)?;
-        let end_column = self.end_column.value(alloc)?;
-        Ok(json!(in alloc; [line, column, end_line, end_column])?)
+        list_value(
+            alloc,
+            &[self.line, self.column, self.end_line, self.end_column],
+        )
     }
 
     fn read(alloc: Global, value: &Value) -> Result<Option<Span>, NoMemory> {

@@ -3,12 +3,13 @@
 ghost use Rattle.std.specs.Prelude.{◌≡◌, true, List, map, Some, IfOk};
 ghost use Rattle.std.specs.List.{list_all};
 ghost use Rattle.serde_json.specs.Find.{get, at};
-ghost use Rattle.serde_json.specs.View.{view};
+ghost use Rattle.serde_json.specs.Data.{put as with_member};
+ghost use Rattle.serde_json.specs.View.{members_view, view};
 ghost use Rattle.psc_externs_rows.specs.Rows.{list_of};
 
 use psc_items::SharedItems;
 use psc_text::NoMemory;
-use serde_json::Value;
+use serde_json::{Map, Value, put};
 use std::alloc::Global;
 
 /// What is written as one JSON value, and read back from it.
@@ -42,6 +43,36 @@ pub fn list_value<T: Row>(alloc: Global, rows: &[T]) -> Result<Value, NoMemory>
         values.push(row.value(alloc)?)?;
     }
     Ok(Value::Array(values))
+}
+
+/// The object with one more member, which is this row.
+pub fn with_row<T: Row>(
+    alloc: Global,
+    object: Map<String, Value>,
+    key: &str,
+    row: &T,
+) -> Result<Map<String, Value>, NoMemory>
+    ensures text { IfOk result (λ m. members_view m.entries ≡ with_member key.now (T.json row.now) (members_view object.entries)) }
+    ensures kept { IfOk result (λ _. T.keeps row.now ≡ true) }
+{
+    let mut object = object;
+    put(&mut object, alloc, key, row.value(alloc)?)?;
+    Ok(object)
+}
+
+/// The object with one more member, which is the list of these rows.
+pub fn with_rows<T: Row>(
+    alloc: Global,
+    object: Map<String, Value>,
+    key: &str,
+    rows: &[T],
+) -> Result<Map<String, Value>, NoMemory>
+    ensures text { IfOk result (λ m. members_view m.entries ≡ with_member key.now (list_of T.json rows.now) (members_view object.entries)) }
+    ensures kept { IfOk result (λ _. list_all T.keeps rows.now ≡ true) }
+{
+    let mut object = object;
+    put(&mut object, alloc, key, list_value(alloc, rows)?)?;
+    Ok(object)
 }
 
 /// The list that has this array.

@@ -3,6 +3,7 @@ use Rattle.std.proofs.Common.{◌≡◌, ◌↔◌, ℕ, Bool, true, false, List
 use Rattle.serde_json.specs.Data.{Data}
 use Rattle.serde_json.specs.Read.{read}
 use Rattle.serde_json.specs.Written.{has_float}
+use Rattle.serde_json.proofs.Views.{view-Object}
 use Rattle.psc_externs.specs.declared.externs.Externs.{Externs}
 use Rattle.psc_externs.specs.declared.places.Places.{Places}
 use Rattle.psc_externs_rows.specs.Kept.{is_interface, are_places}
@@ -33,6 +34,8 @@ pub places_whole : (p : Places) → are_places p ≡ true → has_float (places 
 places_whole p h = no_float 4 (places p) (places_laid 0 p h)
 
 pub ruleset whole = (externs_whole, places_whole)
+
+pub ruleset objects = (view-Object)
 
 -- ---- what is read of bytes that are a text
 

@@ -8,16 +8,19 @@ ghost use Rattle.serde_json.specs.View.{view};
 ghost use Rattle.psc_externs.specs.declared.externs.Externs.{Externs};
 ghost use Rattle.psc_externs.specs.declared.places.Places.{Places};
 ghost use Rattle.psc_externs_rows.specs.Kept.{is_interface, are_places};
+ghost use Rattle.psc_externs_text.specs.Parts as parts;
+ghost use Rattle.psc_externs_text.specs.declared.text.First.{First};
+ghost use Rattle.psc_externs_text.specs.declared.text.Last.{Last};
 ghost use Rattle.psc_externs_text.specs.Texts as spec;
 
 use psc_externs::{
     ClassRow, ConstructorRow, DeclRow, ExportRow, Externs, FixityRow, InstanceRow, Places,
     SynonymRow, TypeRow, UseRow, ValueRow,
 };
-use psc_externs_rows::{kept_module, list_member, list_value, member};
+use psc_externs_rows::{list_member, member, with_row, with_rows};
 use psc_items::SharedItems;
 use psc_text::{ModuleName, NoMemory, Text};
-use serde_json::{Value, json};
+use serde_json::{Map, Value};
 use std::alloc::Global;
 
 /// The text of an interface file.
@@ -116,105 +119,152 @@ fn value_of(alloc: Global, bytes: &[u8]) -> Result<Value, NoMemory>
     }
 }
 
+#[tactic(auto, using(crate::proofs::ReadBack::objects))]
 fn externs_value(alloc: Global, externs: &Externs) -> Result<Value, NoMemory>
     ensures text { IfOk result (λ v. view v ≡ spec.externs externs.now) }
     ensures kept { IfOk result (λ _. is_interface externs.now ≡ true) }
 {
-    let classes = list_value(alloc, externs.classes.as_slice())?;
-    let constructors = list_value(alloc, externs.constructors.as_slice())?;
-    let exports = list_value(alloc, externs.exports.as_slice())?;
-    let fixities = list_value(alloc, externs.fixities.as_slice())?;
-    let imports = list_value(alloc, externs.imports.as_slice())?;
-    let instances = list_value(alloc, externs.instances.as_slice())?;
-    let synonyms = list_value(alloc, externs.synonyms.as_slice())?;
-    let types = list_value(alloc, externs.types.as_slice())?;
-    let values = list_value(alloc, externs.values.as_slice())?;
-    Ok(json!(in alloc; {
-        "classes": classes,
-        "constructors": constructors,
-        "exports": exports,
-        "fixities": fixities,
-        "imports": imports,
-        "instances": instances,
-        "module": kept_module(&externs.module),
-        "synonyms": synonyms,
-        "types": types,
-        "values": values,
-        "version": 1u8
-    })?)
+    let object = Map::new(alloc);
+    let object = with_rows(alloc, object, "classes", externs.classes.as_slice())?;
+    let object = with_rows(
+        alloc,
+        object,
+        "constructors",
+        externs.constructors.as_slice(),
+    )?;
+    let object = with_rows(alloc, object, "exports", externs.exports.as_slice())?;
+    let object = with_rows(alloc, object, "fixities", externs.fixities.as_slice())?;
+    let object = with_rows(alloc, object, "imports", externs.imports.as_slice())?;
+    let object = with_rows(alloc, object, "instances", externs.instances.as_slice())?;
+    let object = with_row(alloc, object, "module", &externs.module)?;
+    let object = with_rows(alloc, object, "synonyms", externs.synonyms.as_slice())?;
+    let object = with_rows(alloc, object, "types", externs.types.as_slice())?;
+    let object = with_rows(alloc, object, "values", externs.values.as_slice())?;
+    let object = with_row(alloc, object, "version", &1u32)?;
+    Ok(Value::Object(object))
 }
 
+#[tactic(auto, using(crate::proofs::ReadBack::objects))]
 fn places_value(alloc: Global, places: &Places) -> Result<Value, NoMemory>
     ensures text { IfOk result (λ v. view v ≡ spec.places places.now) }
     ensures kept { IfOk result (λ _. are_places places.now ≡ true) }
 {
-    let decls = list_value(alloc, places.decls.as_slice())?;
-    let uses = list_value(alloc, places.uses.as_slice())?;
-    Ok(json!(in alloc; {
-        "decls": decls,
-        "module": kept_module(&places.module),
-        "uses": uses,
-        "version": 1u8
-    })?)
+    let object = Map::new(alloc);
+    let object = with_rows(alloc, object, "decls", places.decls.as_slice())?;
+    let object = with_row(alloc, object, "module", &places.module)?;
+    let object = with_rows(alloc, object, "uses", places.uses.as_slice())?;
+    let object = with_row(alloc, object, "version", &1u32)?;
+    Ok(Value::Object(object))
 }
 
 fn read_externs(alloc: Global, value: &Value) -> Result<Option<Externs>, NoMemory>
     ensures { IfOk result (λ o. (e : Externs) → is_interface e ≡ true → view value.now ≡ spec.externs e → o ≡ Some e) }
+{
+    let first = read_first(alloc, value)?;
+    let last = read_last(alloc, value)?;
+    Ok(externs_of(first, last))
+}
+
+/// The members of an interface file before its instances.
+#[derive(Drop)]
+struct First {
+    classes: SharedItems<ClassRow>,
+    constructors: SharedItems<ConstructorRow>,
+    exports: SharedItems<ExportRow>,
+    fixities: SharedItems<FixityRow>,
+    imports: SharedItems<ModuleName>,
+}
+
+/// The members of an interface file from its instances on.
+#[derive(Drop)]
+struct Last {
+    instances: SharedItems<InstanceRow>,
+    module: ModuleName,
+    synonyms: SharedItems<SynonymRow>,
+    types: SharedItems<TypeRow>,
+    values: SharedItems<ValueRow>,
+}
+
+fn externs_of(first: Option<First>, last: Option<Last>) -> Option<Externs>
+    ensures { (e : Externs) → first ≡ Some (parts.first_of e) → last ≡ Some (parts.last_of e) → result ≡ Some e }
+{
+    let first = first?;
+    let last = last?;
+    Some(joined(first, last))
+}
+
+fn joined(first: First, last: Last) -> Externs
+    ensures { result ≡ parts.joined first last }
+{
+    Externs {
+        classes: first.classes,
+        constructors: first.constructors,
+        exports: first.exports,
+        fixities: first.fixities,
+        imports: first.imports,
+        instances: last.instances,
+        module: last.module,
+        synonyms: last.synonyms,
+        types: last.types,
+        values: last.values,
+    }
+}
+
+fn read_first(alloc: Global, value: &Value) -> Result<Option<First>, NoMemory>
+    ensures { IfOk result (λ o. (e : Externs) → is_interface e ≡ true → view value.now ≡ spec.externs e → o ≡ Some (parts.first_of e)) }
 {
     let classes = list_member(alloc, value, "classes")?;
     let constructors = list_member(alloc, value, "constructors")?;
     let exports = list_member(alloc, value, "exports")?;
     let fixities = list_member(alloc, value, "fixities")?;
     let imports = list_member(alloc, value, "imports")?;
-    let instances = list_member(alloc, value, "instances")?;
-    let module = member(alloc, value, "module")?;
-    let synonyms = list_member(alloc, value, "synonyms")?;
-    let types = list_member(alloc, value, "types")?;
-    let values = list_member(alloc, value, "values")?;
-    let parts = Parts {
-        classes,
-        constructors,
-        exports,
-        fixities,
-        imports,
-        instances,
-        module,
-        synonyms,
-        types,
-        values,
-    };
-    Ok(externs_of(parts))
+    Ok(first_of(classes, constructors, exports, fixities, imports))
 }
 
-/// What the members of an interface file are read as.
-#[derive(Drop)]
-struct Parts {
+fn first_of(
     classes: Option<SharedItems<ClassRow>>,
     constructors: Option<SharedItems<ConstructorRow>>,
     exports: Option<SharedItems<ExportRow>>,
     fixities: Option<SharedItems<FixityRow>>,
     imports: Option<SharedItems<ModuleName>>,
+) -> Option<First>
+    ensures { (f : First) → classes ≡ Some f.classes → constructors ≡ Some f.constructors → exports ≡ Some f.exports → fixities ≡ Some f.fixities → imports ≡ Some f.imports → result ≡ Some f }
+{
+    Some(First {
+        classes: classes?,
+        constructors: constructors?,
+        exports: exports?,
+        fixities: fixities?,
+        imports: imports?,
+    })
+}
+
+fn read_last(alloc: Global, value: &Value) -> Result<Option<Last>, NoMemory>
+    ensures { IfOk result (λ o. (e : Externs) → is_interface e ≡ true → view value.now ≡ spec.externs e → o ≡ Some (parts.last_of e)) }
+{
+    let instances = list_member(alloc, value, "instances")?;
+    let module = member(alloc, value, "module")?;
+    let synonyms = list_member(alloc, value, "synonyms")?;
+    let types = list_member(alloc, value, "types")?;
+    let values = list_member(alloc, value, "values")?;
+    Ok(last_of(instances, module, synonyms, types, values))
+}
+
+fn last_of(
     instances: Option<SharedItems<InstanceRow>>,
     module: Option<ModuleName>,
     synonyms: Option<SharedItems<SynonymRow>>,
     types: Option<SharedItems<TypeRow>>,
     values: Option<SharedItems<ValueRow>>,
-}
-
-fn externs_of(parts: Parts) -> Option<Externs>
-    ensures { (e : Externs) → parts.classes ≡ Some e.classes → parts.constructors ≡ Some e.constructors → parts.exports ≡ Some e.exports → parts.fixities ≡ Some e.fixities → parts.imports ≡ Some e.imports → parts.instances ≡ Some e.instances → parts.«module» ≡ Some e.«module» → parts.synonyms ≡ Some e.synonyms → parts.types ≡ Some e.types → parts.values ≡ Some e.values → result ≡ Some e }
+) -> Option<Last>
+    ensures { (l : Last) → instances ≡ Some l.instances → «module» ≡ Some l.«module» → synonyms ≡ Some l.synonyms → types ≡ Some l.types → values ≡ Some l.values → result ≡ Some l }
 {
-    Some(Externs {
-        classes: parts.classes?,
-        constructors: parts.constructors?,
-        exports: parts.exports?,
-        fixities: parts.fixities?,
-        imports: parts.imports?,
-        instances: parts.instances?,
-        module: parts.module?,
-        synonyms: parts.synonyms?,
-        types: parts.types?,
-        values: parts.values?,
+    Some(Last {
+        instances: instances?,
+        module: module?,
+        synonyms: synonyms?,
+        types: types?,
+        values: values?,
     })
 }
 

@@ -1,5 +1,5 @@
 -- What all the words of a type, a kind or a constraint make.
-use Rattle.std.proofs.Common.{◌≡◌, ℕ, ◌≤◌, true, false, ◌&&◌, not, [], ◌∷◌, ◌++◌, length, Option, Some, option_and_then, Result, Ok, Err, IfOk, sym, ap, ◌∙◌, subst, arith, append-nil, ltb-false}
+use Rattle.std.proofs.Common.{◌≡◌, ℕ, ◌≤◌, true, false, not, [], ◌∷◌, ◌++◌, length, Option, Some, option_and_then, Result, Ok, Err, IfOk, sym, ap, ◌∙◌, subst, arith, append-nil, ltb-false}
 use Rattle.std.proofs.lemmas.Bool.{and_parts, not-true}
 use Rattle.psc_type.specs.Closed.{is_known_kind}
 use Rattle.psc_type.specs.declared.kind.Kind.{Kind}

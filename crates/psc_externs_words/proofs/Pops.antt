@@ -1,5 +1,5 @@
 -- What the top of a stack is.
-use Rattle.std.proofs.Common.{◌≡◌, List, [], ◌∷◌, ◌++◌, Some, None, option_map, refl, ap, ◌∙◌}
+use Rattle.std.proofs.Common.{◌≡◌, List, [], ◌∷◌, ◌++◌, Some, None, option_map, refl, ap}
 use Rattle.psc_externs_words.specs.Reading.{pop}
 use Rattle.psc_externs_words.specs.declared.stack.Item.{Item}
 

@@ -1,5 +1,5 @@
 -- What words do to a stack, one after another.
-use Rattle.std.proofs.Common.{◌≡◌, ℕ, true, false, ◌&&◌, not, ◌==◌, List, [], ◌∷◌, ◌++◌, Option, Some, None, option_and_then, codes, refl, sym, ap, ◌∙◌, append_assoc}
+use Rattle.std.proofs.Common.{◌≡◌, ℕ, true, false, ◌&&◌, ◌==◌, List, [], ◌∷◌, ◌++◌, Option, Some, None, option_and_then, codes, refl, ap, ◌∙◌, append_assoc}
 use Rattle.std.proofs.lemmas.Bool.{and_parts, or_parts, not-true}
 use Rattle.std.specs.Str.{chars}
 use Rattle.psc_text.specs.Letters.{is_module_name}
@@ -12,7 +12,7 @@ use Rattle.psc_type.specs.declared.ty.Ty.{Ty}
 use Rattle.psc_type.specs.declared.ty.Ty.TheVariants as ty
 use Rattle.psc_externs.specs.Names.{has_dot, is_name, is_module, is_true_name}
 use Rattle.psc_externs_words.specs.Words.{Words, word, first, text_in, qualified_text}
-use Rattle.psc_externs_words.specs.Reading.{Stack, Step, push, pop, cut, qualified, makes_kind, makes_type, given_to, constraint_of, step, plain_kind, made_kind, named, run}
+use Rattle.psc_externs_words.specs.Reading.{Stack, Step, push, cut, qualified, makes_kind, makes_type, given_to, constraint_of, step, plain_kind, made_kind, named, run}
 use Rattle.psc_externs_words.specs.declared.stack.Item.TheVariants.{OfKind, OfType}
 use Rattle.psc_externs_words.proofs.Pops.{pop-push}
 

@@ -122,13 +122,28 @@ fn constrained(alloc: Global, stack: Vec<Item>) -> Result<Option<Vec<Item>>, NoM
     ensures { IfOk result (λ o. option_map (λ v. v.items) o ≡ spec.constrained stack.items) }
 {
     match two_types(stack) {
-        Some((given, body, stack)) => match constraint_of(alloc, &given)? {
-            Some(given) => push(
-                stack,
-                Item::OfType(Ty::Given(given, Shared::new(alloc, body)?)),
-            ),
-            None => Ok(None),
-        },
+        Some((class, body, stack)) => {
+            let given = constraint_of(alloc, &class)?;
+            given_to(alloc, body, stack, given)
+        }
+        None => Ok(None),
+    }
+}
+
+/// The type under the constraint, where there is one.
+fn given_to(
+    alloc: Global,
+    body: Ty,
+    stack: Vec<Item>,
+    given: Option<Constraint>,
+) -> Result<Option<Vec<Item>>, NoMemory>
+    ensures { IfOk result (λ o. option_map (λ v. v.items) o ≡ spec.given_to body stack.items given) }
+{
+    match given {
+        Some(given) => push(
+            stack,
+            Item::OfType(Ty::Given(given, Shared::new(alloc, body)?)),
+        ),
         None => Ok(None),
     }
 }

@@ -11,7 +11,7 @@ loop-value-preserved g c = λ xs k e.
     left_behind g.T.Row.json g.T.Row.keeps c.loop-value.rows.items xs _ (view c.value-item.result) _ c.in-Some.row
     (row_at g.T.Row.json g.T.Row.keeps view c.args.values.now c.loop-value.value-index c.value-item.result c.loop-value.rows.items xs c.loop-value-test.true c.value-item.is (c.loop-value.invariant xs k e))
     (λ x kx ex. sym c.in-Some.is ∙ c.in_ok-row.ensures x kx ex)
-    c.in_ok-push.ensures.items
+    c.in_ok-push-in-Some.ensures.items
 
 pub returns-in-None : goal.returns-in-None
 returns-in-None g c = λ xs k e.

@@ -3,7 +3,7 @@ use Rattle.std.proofs.lemmas.Bool.{and_parts}
 use Rattle.serde_json.specs.Find.{get}
 use Rattle.psc_externs.specs.Entities.{space_of, text_of}
 use Rattle.psc_externs_rows.specs.Kept.{keeps_entity, keeps_span}
-use Rattle.psc_externs_rows.proofs.Names.{utf8-entity}
+use Rattle.psc_externs_rows.proofs.KeptNames.{utf8-entity}
 use Rattle.psc_externs_rows.proofs.places.DeclRowRow.read.Goals as goal
 
 pub returns : goal.returns
