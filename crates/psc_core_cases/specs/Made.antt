@@ -32,9 +32,12 @@ undefined at = core.Var (plain at) (record { «module» = Some (codes "Prim"); n
 abbrev pub thunk : Span → CoreExpr → CoreExpr
 thunk at e = core.Abs (plain at) (record { 0 = codes "$u" }) e
 
+abbrev pub applied : Span → CoreExpr → CoreExpr → CoreExpr
+applied at f a = core.App (plain at) f a
+
 -- a value that was put off, where it is wanted
 abbrev pub forced : Span → CoreExpr → CoreExpr
-forced at e = core.App (plain at) e (undefined at)
+forced at e = applied at e (undefined at)
 
 abbrev pub truth : Span → Bool → CoreExpr
 truth at b = core.Literal (plain at) (literal.Bool b)
