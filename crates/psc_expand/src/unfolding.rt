@@ -22,9 +22,13 @@ pub struct Unfolding {
 
 impl Model for Unfolding {
     ghost use Rattle.std.specs.Prelude.{List};
+    ghost use Rattle.std.specs.Coded.{codes};
+    ghost use Rattle.psc_type.specs.contracts.ty.Ty as types;
     ghost use Rattle.psc_expand.specs.declared.head.Prepared.{Prepared};
 
     ghost Value = { List Prepared };
+
+    ghost coded = { Prim.hlevel (codes, types.the_row.coded) };
 
     ghost view = { λ u. u.table.items };
 }
@@ -123,9 +127,10 @@ fn add_place(place: u32, end: usize, list: &mut Vec<u32>) -> Result<(), NoMemory
     requires { AllBelow list.old.items end }
     ensures { OnOk result (AllBelow list.new.items end) }
 {
-    if (place as usize) < end {
-        list.push(place)?;
+    if (place as usize) >= end {
+        return Ok(());
     }
+    list.push(place)?;
     Ok(())
 }
 
