@@ -13,14 +13,14 @@ pub one_place : (list : List ℕ) (place end : ℕ) → AllBelow list end → pl
 one_place list place end all below = record { each = λ at number has. elim (after_push list place at number has) [ inl p ↦ (let q = p.1 in omega arith) | inr q ↦ all.each at number q ] }
 
 -- each list has places below the end alone
-abbrev pub ListsBelow : List (Vec ℕ Global) → ℕ → Type 0
-ListsBelow m end = (at : ℕ) (list : Vec ℕ Global) → slice_get m at ≡ Some list → AllBelow list.items end
+pub record ListsBelow (m : List (Vec ℕ Global)) (end : ℕ) : Type 0 where
+  pub each : (at : ℕ) (list : Vec ℕ Global) → slice_get m at ≡ Some list → AllBelow list.items end
 
 pub no_lists : (end : ℕ) → ListsBelow [] end
-no_lists end at list has = absurd cc
+no_lists end = record { each = λ at list has. absurd cc }
 
 pub one_list : (m : List (Vec ℕ Global)) (list : Vec ℕ Global) (end : ℕ) → ListsBelow m end → AllBelow list.items end → ListsBelow (m ++ list ∷ []) end
-one_list m list end all below at other has = elim (after_push m list at other has) [ inl p ↦ rw p.1 below | inr q ↦ all at other q ]
+one_list m list end all below = record { each = λ at other has. elim (after_push m list at other has) [ inl p ↦ rw p.1 below | inr q ↦ all.each at other q ] }
 
 pub lists_declared : (m : List (Vec ℕ Global)) (end : ℕ) → length m ≡ end → ListsBelow m end → AllDeclared m
-lists_declared m end e all = record { declared = λ a b mention. rw e ((all a mention.list mention.has).each mention.place b mention.at) }
+lists_declared m end e all = record { declared = λ a b mention. rw e ((all.each a mention.list mention.has).each mention.place b mention.at) }

@@ -53,7 +53,7 @@ fn head(alloc: Global, ty: &Ty, table: &[Prepared]) -> Result<Result<Head, Expan
         Ty::Con(name) => start(alloc, table, name),
         Ty::App(function, argument) => match head(alloc, function.get(), table)? {
             Err(fault) => Ok(Err(fault)),
-            Ok(front) => applied(alloc, argument.get(), front, table),
+            Ok(front) => applied(alloc, argument.get(), &front, table),
         },
         Ty::Forall(name, kind, body) => quantified(alloc, body.get(), name, kind, table),
         Ty::Given(given, body) => match constraint(alloc, given, table)? {
@@ -62,7 +62,7 @@ fn head(alloc: Global, ty: &Ty, table: &[Prepared]) -> Result<Result<Head, Expan
         },
         Ty::RowCons(label, first, rest) => match part(alloc, first.get(), table)? {
             Err(fault) => Ok(Err(fault)),
-            Ok(first) => row_of(alloc, rest.get(), label, first, table),
+            Ok(first) => row_of(alloc, rest.get(), label, &first, table),
         },
         Ty::Var(_) | Ty::Unknown(_) | Ty::RowNil | Ty::Symbol(_) | Ty::Any(_) => {
             Ok(Ok(Head::Done(ty.clone()?)))
@@ -75,10 +75,10 @@ fn head(alloc: Global, ty: &Ty, table: &[Prepared]) -> Result<Result<Head, Expan
 fn applied(
     alloc: Global,
     argument: &Ty,
-    front: Head,
+    front: &Head,
     table: &[Prepared],
 ) -> Result<Result<Head, ExpandFault>, NoMemory>
-    ensures { IfOk result (λ r. r ≡ spec.and_then (spec.part table.now argument.now) (λ t. heads.apply front t)) }
+    ensures { IfOk result (λ r. r ≡ spec.and_then (spec.part table.now argument.now) (λ t. heads.apply front.now t)) }
 {
     match part(alloc, argument, table)? {
         Err(fault) => Ok(Err(fault)),
@@ -128,17 +128,17 @@ fn row_of(
     alloc: Global,
     rest: &Ty,
     label: &Label,
-    first: Ty,
+    first: &Ty,
     table: &[Prepared],
 ) -> Result<Result<Head, ExpandFault>, NoMemory>
-    ensures { IfOk result (λ r. r ≡ spec.and_then (spec.part table.now rest.now) (λ t. spec.done (ty.RowCons label.now first t))) }
+    ensures { IfOk result (λ r. r ≡ spec.and_then (spec.part table.now rest.now) (λ t. spec.done (ty.RowCons label.now first.now t))) }
 {
     match part(alloc, rest, table)? {
         Err(fault) => Ok(Err(fault)),
         Ok(rest) => {
-            let label = label.clone()?;
-            let first = Shared::new(alloc, first)?;
-            Ok(Ok(Head::Done(Ty::RowCons(label, first, Shared::new(alloc, rest)?))))
+            let rest = Shared::new(alloc, rest)?;
+            let first = Shared::new(alloc, first.clone()?)?;
+            Ok(Ok(Head::Done(Ty::RowCons(label.clone()?, first, rest))))
         }
     }
 }

@@ -112,35 +112,35 @@ fn with_one_more(
 #[tactic(auto, unfolding(crate::specs::Head::filled_or_waiting))]
 fn filled_or_waiting(
     alloc: Global,
-    name: Qualified,
-    params: SharedItems<Ident>,
-    body: Ty,
+    name: &Qualified,
+    params: &SharedItems<Ident>,
+    body: &Ty,
     given: SharedItems<Replaced>,
 ) -> Result<Result<Head, ExpandFault>, NoMemory>
-    ensures { IfOk result (λ r. r ≡ spec.filled_or_waiting name params body given) }
+    ensures { IfOk result (λ r. r ≡ spec.filled_or_waiting name.now params.now body.now given) }
 {
     if given.len() == params.len() {
-        filled(alloc, given.as_slice(), &body)
-    } else {
-        Ok(Ok(Head::Waiting(name, params, body, given)))
+        return filled(alloc, given.as_slice(), body);
     }
+    let (name, params) = (name.clone()?, params.clone()?);
+    Ok(Ok(Head::Waiting(name, params, body.clone()?, given)))
 }
 
 /// The head that a synonym which waits becomes with one more argument.
 fn taken(
     alloc: Global,
-    name: Qualified,
-    params: SharedItems<Ident>,
-    body: Ty,
-    given: SharedItems<Replaced>,
+    name: &Qualified,
+    params: &SharedItems<Ident>,
+    body: &Ty,
+    given: &[Replaced],
     argument: Ty,
 ) -> Result<Result<Head, ExpandFault>, NoMemory>
-    ensures { IfOk result (λ r. r ≡ spec.apply_at name params body given argument (slice_get params (length given))) }
+    ensures { IfOk result (λ r. r ≡ spec.apply_at name.now params.now body.now given.now argument (slice_get params.now (length given.now))) }
 {
     match params.as_slice().get(given.len()) {
-        None => Ok(Err(ExpandFault::Partial(name))),
+        None => Ok(Err(ExpandFault::Partial(name.clone()?))),
         Some(param) => {
-            let given = with_one_more(alloc, given.as_slice(), param, argument)?;
+            let given = with_one_more(alloc, given, param, argument)?;
             filled_or_waiting(alloc, name, params, body, given)
         }
     }
@@ -150,18 +150,24 @@ fn taken(
 #[tactic(auto, unfolding(crate::specs::Head::apply))]
 pub(crate) fn apply(
     alloc: Global,
-    head: Head,
+    head: &Head,
     argument: Ty,
 ) -> Result<Result<Head, ExpandFault>, NoMemory>
-    ensures { IfOk result (λ r. r ≡ spec.apply head argument) }
+    ensures { IfOk result (λ r. r ≡ spec.apply head.now argument) }
 {
     match head {
         Head::Done(ty) => {
-            let function = Shared::new(alloc, ty)?;
-            Ok(Ok(Head::Done(Ty::App(function, Shared::new(alloc, argument)?))))
+            let argument = Shared::new(alloc, argument)?;
+            let function = Shared::new(alloc, ty.clone()?)?;
+            Ok(Ok(Head::Done(Ty::App(function, argument))))
         }
         Head::Waiting(name, params, body, given) => taken(
-            alloc, name, params, body, given, argument,
+            alloc,
+            name,
+            params,
+            body,
+            given.as_slice(),
+            argument,
         ),
     }
 }

@@ -94,6 +94,7 @@ fn places_of(alloc: Global, rows: &[Synonym]) -> Result<BTreeMap<Qualified, u32>
 }
 
 /// For each row the places of those that its body mentions.
+#[tactic(auto, using(crate::proofs::Mentioning::no_lists, crate::proofs::Mentioning::one_list, crate::proofs::Mentioning::lists_declared))]
 fn mentions_of(
     alloc: Global,
     rows: &[Synonym],
@@ -109,6 +110,7 @@ fn mentions_of(
 }
 
 /// The places below an end that the type mentions.
+#[tactic(auto, using(crate::proofs::Mentioning::no_places))]
 fn mentions_in(
     alloc: Global,
     ty: &Ty,
@@ -123,6 +125,7 @@ fn mentions_in(
 }
 
 /// Notes a place. Each is below the number of rows.
+#[tactic(auto, using(crate::proofs::Mentioning::one_place))]
 fn add_place(place: u32, end: usize, list: &mut Vec<u32>) -> Result<(), NoMemory>
     requires { AllBelow list.old.items end }
     ensures { OnOk result (AllBelow list.new.items end) }
