@@ -100,8 +100,9 @@ fn quantified(
     match part(alloc, body, table)? {
         Err(fault) => Ok(Err(fault)),
         Ok(body) => {
-            let (name, kind) = (name.clone()?, kind.clone()?);
-            Ok(Ok(Head::Done(Ty::Forall(name, kind, Shared::new(alloc, body)?))))
+            let body = Shared::new(alloc, body)?;
+            let name = name.clone()?;
+            Ok(Ok(Head::Done(Ty::Forall(name, kind.clone()?, body))))
         }
     }
 }

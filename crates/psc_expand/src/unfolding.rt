@@ -72,12 +72,10 @@ pub fn expand(
 }
 
 fn prepared(alloc: Global, row: &Synonym, table: &[Prepared]) -> Result<Prepared, NoMemory> {
+    let name = row.name.clone()?;
+    let params = row.params.clone()?;
     let body = expand_over(alloc, &row.body, table)?;
-    Ok(Prepared {
-        name: row.name.clone()?,
-        params: row.params.clone()?,
-        body,
-    })
+    Ok(Prepared { name, params, body })
 }
 
 /// The place of the first row of each name.
