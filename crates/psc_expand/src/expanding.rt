@@ -173,7 +173,7 @@ fn constraint(
 }
 
 #[cycle(expand)]
-#[tactic(auto, using(crate::proofs::ExpandRules::turns))]
+#[tactic(auto, unfolding(crate::specs::Expand::finished_onto))]
 fn parts(
     alloc: Global,
     args: &[Ty],

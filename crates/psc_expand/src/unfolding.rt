@@ -92,7 +92,7 @@ fn places_of(alloc: Global, rows: &[Synonym]) -> Result<BTreeMap<Qualified, u32>
 }
 
 /// For each row the places of those that its body mentions.
-#[tactic(auto, using(crate::proofs::Mentioning::no_lists, crate::proofs::Mentioning::one_list, crate::proofs::Mentioning::lists_declared))]
+#[tactic(auto, using(crate::proofs::Mentioning::no_lists, crate::proofs::Mentioning::one_list))]
 fn mentions_of(
     alloc: Global,
     rows: &[Synonym],
