@@ -1,32 +1,24 @@
 //! The names that binders bind.
 
-use psc_ast::{BinderTree, LabelAt};
+use psc_ast::{BinderField, BinderStep, BinderTree, IdentAt, LabelAt};
 use psc_text::{NoMemory, Text};
 
 /// Adds the names that a binder binds.
 #[cycle(binders)]
 pub(crate) fn bound_names(tree: &BinderTree, names: &mut Vec<Text>) -> Result<(), NoMemory> {
     match tree {
-        BinderTree::Variable { name } => {
-            names.push(name.name.0.clone()?)?;
-            Ok(())
-        }
+        BinderTree::Variable { name } => add_name(name, names),
         BinderTree::Named {
             names: outer,
             inner,
             ..
         } => {
-            for name in outer.as_slice() {
-                names.push(name.name.0.clone()?)?;
-            }
+            add_names(outer.as_slice(), names)?;
             bound_names(inner.get(), names)
         }
         BinderTree::Chain { first, rest, .. } => {
             bound_names(first.get(), names)?;
-            for step in rest.as_slice() {
-                bound_names(&step.operand, names)?;
-            }
-            Ok(())
+            bound_in_steps(rest.as_slice(), names)
         }
         BinderTree::Operation { left, right, .. } => {
             bound_names(left.get(), names)?;
@@ -38,15 +30,7 @@ pub(crate) fn bound_names(tree: &BinderTree, names: &mut Vec<Text>) -> Result<()
         ),
         BinderTree::Constructor { arguments, .. } => all_bound(arguments.as_slice(), names),
         BinderTree::Array { items, .. } => all_bound(items.as_slice(), names),
-        BinderTree::XRecord { fields, .. } => {
-            for field in fields.as_slice() {
-                match &field.value {
-                    Some(value) => bound_names(value.get(), names)?,
-                    None => pun(&field.label, names)?,
-                }
-            }
-            Ok(())
-        }
+        BinderTree::XRecord { fields, .. } => bound_in_fields(fields.as_slice(), names),
         BinderTree::Wild { .. }
         | BinderTree::Integer { .. }
         | BinderTree::Str { .. }
@@ -55,9 +39,40 @@ pub(crate) fn bound_names(tree: &BinderTree, names: &mut Vec<Text>) -> Result<()
     }
 }
 
+fn add_name(name: &IdentAt, names: &mut Vec<Text>) -> Result<(), NoMemory> {
+    names.push(name.name.0.clone()?)?;
+    Ok(())
+}
+
+fn add_names(list: &[IdentAt], names: &mut Vec<Text>) -> Result<(), NoMemory> {
+    for name in list {
+        add_name(name, names)?;
+    }
+    Ok(())
+}
+
 /// A label alone binds the variable of its name.
 fn pun(label: &LabelAt, names: &mut Vec<Text>) -> Result<(), NoMemory> {
     names.push(label.label.0.clone()?)?;
+    Ok(())
+}
+
+#[cycle(binders)]
+fn bound_in_steps(steps: &[BinderStep], names: &mut Vec<Text>) -> Result<(), NoMemory> {
+    for step in steps {
+        bound_names(&step.operand, names)?;
+    }
+    Ok(())
+}
+
+#[cycle(binders)]
+fn bound_in_fields(fields: &[BinderField], names: &mut Vec<Text>) -> Result<(), NoMemory> {
+    for field in fields {
+        match &field.value {
+            Some(value) => bound_names(value.get(), names)?,
+            None => pun(&field.label, names)?,
+        }
+    }
     Ok(())
 }
 

@@ -6,7 +6,7 @@
 use crate::binders::{all_bound, bound_names};
 use crate::exprs::expr;
 use crate::scope::Walk;
-use psc_ast::{Alt, Bind, Branch, Clause, Guard, Rhs, Stmt, Test};
+use psc_ast::{Alt, Bind, BinderTree, Branch, Clause, Guard, Rhs, Stmt, Test};
 use psc_text::NoMemory;
 
 /// Whether a clause is the first of its declaration, by the clause before it: one with arguments and its name goes on.
@@ -36,6 +36,20 @@ fn open_segment(walk: &mut Walk, binds: &[Bind], from: usize) -> Result<(), NoMe
     Ok(())
 }
 
+/// Brings the names of a binder into scope.
+fn enter_binder(walk: &mut Walk, binder: &BinderTree) -> Result<(), NoMemory> {
+    let mut names = Vec::new(walk.alloc);
+    bound_names(binder, &mut names)?;
+    walk.enter_all(&names)
+}
+
+/// Brings the names of binders into scope.
+pub(crate) fn enter_binders(walk: &mut Walk, binders: &[BinderTree]) -> Result<(), NoMemory> {
+    let mut names = Vec::new(walk.alloc);
+    all_bound(binders, &mut names)?;
+    walk.enter_all(&names)
+}
+
 /// Notes what bindings mention, and leaves their names in scope.
 #[cycle(exprs)]
 pub(crate) fn bindings(walk: &mut Walk, binds: &[Bind]) -> Result<(), NoMemory> {
@@ -43,23 +57,29 @@ pub(crate) fn bindings(walk: &mut Walk, binds: &[Bind]) -> Result<(), NoMemory> 
     let mut next: usize = 0;
     for bind in binds {
         next = next.saturating_add(1);
-        match bind {
-            Bind::Sig(_) => {}
-            Bind::Clause(one) => {
-                walk.begin_at(one.span);
-                clause(walk, one)?;
-            }
-            Bind::Value { binder, rhs, .. } => {
-                walk.close()?;
-                right_side(walk, rhs)?;
-                let mut names = Vec::new(walk.alloc);
-                bound_names(binder, &mut names)?;
-                walk.enter_all(&names)?;
-                open_segment(walk, binds, next)?;
-            }
+        binding(walk, bind)?;
+        if let Bind::Value { .. } = bind {
+            open_segment(walk, binds, next)?;
         }
     }
     walk.close()
+}
+
+/// Notes what a binding mentions. A binder that is no variable ends the block, and its names are in scope from then on.
+#[cycle(exprs)]
+fn binding(walk: &mut Walk, bind: &Bind) -> Result<(), NoMemory> {
+    match bind {
+        Bind::Sig(_) => Ok(()),
+        Bind::Clause(one) => {
+            walk.begin_at(one.span);
+            clause(walk, one)
+        }
+        Bind::Value { binder, rhs, .. } => {
+            walk.close()?;
+            right_side(walk, rhs)?;
+            enter_binder(walk, binder)
+        }
+    }
 }
 
 /// Notes what a clause mentions. With arguments it is a lambda.
@@ -67,9 +87,7 @@ pub(crate) fn bindings(walk: &mut Walk, binds: &[Bind]) -> Result<(), NoMemory> 
 pub(crate) fn clause(walk: &mut Walk, one: &Clause) -> Result<(), NoMemory> {
     let mark = walk.mark();
     let lambdas = walk.lambdas;
-    let mut names = Vec::new(walk.alloc);
-    all_bound(one.arguments.as_slice(), &mut names)?;
-    walk.enter_all(&names)?;
+    enter_binders(walk, one.arguments.as_slice())?;
     if !one.arguments.is_empty() {
         walk.lambdas = lambdas.saturating_add(1);
     }
@@ -107,15 +125,7 @@ fn branch(walk: &mut Walk, one: &Branch) -> Result<(), NoMemory> {
 fn guard(walk: &mut Walk, one: &Guard) -> Result<(), NoMemory> {
     let mark = walk.mark();
     for test in one.tests.as_slice() {
-        match test {
-            Test::Holds { value } => expr(walk, value)?,
-            Test::Binds { binder, value, .. } => {
-                expr(walk, value)?;
-                let mut names = Vec::new(walk.alloc);
-                bound_names(binder, &mut names)?;
-                walk.enter_all(&names)?;
-            }
-        }
+        test_of(walk, test)?;
     }
     branch(walk, &one.branch)?;
     walk.leave(mark);
@@ -123,68 +133,100 @@ fn guard(walk: &mut Walk, one: &Guard) -> Result<(), NoMemory> {
 }
 
 #[cycle(exprs)]
+fn test_of(walk: &mut Walk, test: &Test) -> Result<(), NoMemory> {
+    match test {
+        Test::Holds { value } => expr(walk, value),
+        Test::Binds { binder, value, .. } => {
+            expr(walk, value)?;
+            enter_binder(walk, binder)
+        }
+    }
+}
+
+#[cycle(exprs)]
 pub(crate) fn alternatives(walk: &mut Walk, list: &[Alt]) -> Result<(), NoMemory> {
     for one in list {
         let mark = walk.mark();
-        let mut names = Vec::new(walk.alloc);
-        all_bound(one.binders.as_slice(), &mut names)?;
-        walk.enter_all(&names)?;
+        enter_binders(walk, one.binders.as_slice())?;
         right_side(walk, &one.rhs)?;
         walk.leave(mark);
     }
     Ok(())
 }
 
-/// Notes what the statements of a `do` mention. Behind a statement with a value the rest is a lambda.
+/// Notes what the statements of a `do` mention.
 #[cycle(exprs)]
 pub(crate) fn do_items(walk: &mut Walk, statements: &[Stmt]) -> Result<(), NoMemory> {
     for one in statements {
-        match one {
-            Stmt::Let { binds, .. } => bindings(walk, binds.as_slice())?,
-            Stmt::Run { value } => {
-                expr(walk, value)?;
-                walk.lambdas = walk.lambdas.saturating_add(1);
-            }
-            Stmt::Binds { binder, value, .. } => {
-                expr(walk, value)?;
-                walk.lambdas = walk.lambdas.saturating_add(1);
-                let mut names = Vec::new(walk.alloc);
-                bound_names(binder, &mut names)?;
-                walk.enter_all(&names)?;
-            }
-        }
+        do_item(walk, one)?;
     }
     Ok(())
+}
+
+/// Notes what a statement of a `do` mentions. Behind a statement with a value the rest is a lambda.
+#[cycle(exprs)]
+fn do_item(walk: &mut Walk, one: &Stmt) -> Result<(), NoMemory> {
+    match one {
+        Stmt::Let { binds, .. } => bindings(walk, binds.as_slice()),
+        Stmt::Run { value } => {
+            expr(walk, value)?;
+            walk.lambdas = walk.lambdas.saturating_add(1);
+            Ok(())
+        }
+        Stmt::Binds { binder, value, .. } => {
+            expr(walk, value)?;
+            walk.lambdas = walk.lambdas.saturating_add(1);
+            enter_binder(walk, binder)
+        }
+    }
 }
 
 /// Notes what the items of an `ado` mention. The steps see no name of the others; the `let`s and the result stand in a lambda
 /// over the steps.
 #[cycle(exprs)]
 pub(crate) fn ado_items(walk: &mut Walk, statements: &[Stmt]) -> Result<(), NoMemory> {
-    let lambdas = walk.lambdas;
+    ado_steps(walk, statements)?;
+    if has_step(statements) {
+        walk.lambdas = walk.lambdas.saturating_add(1);
+    }
+    for one in statements {
+        ado_let(walk, one)?;
+    }
+    Ok(())
+}
+
+/// Whether a statement is no `let`.
+fn has_step(statements: &[Stmt]) -> bool {
+    for one in statements {
+        match one {
+            Stmt::Run { .. } | Stmt::Binds { .. } => return true,
+            Stmt::Let { .. } => {}
+        }
+    }
+    false
+}
+
+/// Notes what the steps of an `ado` mention, and brings the names of their binders into scope behind them all.
+#[cycle(exprs)]
+fn ado_steps(walk: &mut Walk, statements: &[Stmt]) -> Result<(), NoMemory> {
     let mut names = Vec::new(walk.alloc);
-    let mut inside = lambdas;
     for one in statements {
         match one {
             Stmt::Let { .. } => {}
-            Stmt::Run { value } => {
-                expr(walk, value)?;
-                inside = lambdas.saturating_add(1);
-            }
+            Stmt::Run { value } => expr(walk, value)?,
             Stmt::Binds { binder, value, .. } => {
                 expr(walk, value)?;
-                inside = lambdas.saturating_add(1);
                 bound_names(binder, &mut names)?;
             }
         }
     }
-    walk.enter_all(&names)?;
-    walk.lambdas = inside;
-    for one in statements {
-        match one {
-            Stmt::Let { binds, .. } => bindings(walk, binds.as_slice())?,
-            Stmt::Run { .. } | Stmt::Binds { .. } => {}
-        }
+    walk.enter_all(&names)
+}
+
+#[cycle(exprs)]
+fn ado_let(walk: &mut Walk, one: &Stmt) -> Result<(), NoMemory> {
+    match one {
+        Stmt::Let { binds, .. } => bindings(walk, binds.as_slice()),
+        Stmt::Run { .. } | Stmt::Binds { .. } => Ok(()),
     }
-    Ok(())
 }

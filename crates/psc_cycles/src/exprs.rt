@@ -1,9 +1,8 @@
 //! The mentions of expressions, in the order of the source.
 
-use crate::binders::all_bound;
-use crate::binds::{ado_items, alternatives, bindings, do_items};
+use crate::binds::{ado_items, alternatives, bindings, do_items, enter_binders};
 use crate::scope::Walk;
-use psc_ast::{ExprTree, Field};
+use psc_ast::{ChainStep, ExprTree, Field, TickStep, Update};
 use psc_text::NoMemory;
 
 /// Notes what an expression mentions.
@@ -45,10 +44,7 @@ pub(crate) fn expr(walk: &mut Walk, tree: &ExprTree) -> Result<(), NoMemory> {
             ..
         } => {
             expr(walk, subject.get())?;
-            for update in updates.as_slice() {
-                expr(walk, update.value.get())?;
-            }
-            Ok(())
+            updated(walk, updates.as_slice())
         }
         ExprTree::Paren { inner, .. } => paren(walk, inner.get()),
         ExprTree::Array { items, .. } => exprs(walk, items.as_slice()),
@@ -73,23 +69,41 @@ fn exprs(walk: &mut Walk, trees: &[ExprTree]) -> Result<(), NoMemory> {
 }
 
 #[cycle(exprs)]
+fn updated(walk: &mut Walk, updates: &[Update]) -> Result<(), NoMemory> {
+    for update in updates {
+        expr(walk, update.value.get())?;
+    }
+    Ok(())
+}
+
+#[cycle(exprs)]
+fn chain_steps(walk: &mut Walk, steps: &[ChainStep]) -> Result<(), NoMemory> {
+    for step in steps {
+        walk.value(&step.op)?;
+        expr(walk, &step.operand)?;
+    }
+    Ok(())
+}
+
+#[cycle(exprs)]
+fn tick_steps(walk: &mut Walk, steps: &[TickStep]) -> Result<(), NoMemory> {
+    for step in steps {
+        walk.value(&step.name)?;
+        expr(walk, &step.operand)?;
+    }
+    Ok(())
+}
+
+#[cycle(exprs)]
 fn operators(walk: &mut Walk, tree: &ExprTree) -> Result<(), NoMemory> {
     match tree {
         ExprTree::Chain { first, rest, .. } => {
             expr(walk, first.get())?;
-            for step in rest.as_slice() {
-                walk.value(&step.op)?;
-                expr(walk, &step.operand)?;
-            }
-            Ok(())
+            chain_steps(walk, rest.as_slice())
         }
         ExprTree::Ticks { first, rest, .. } => {
             expr(walk, first.get())?;
-            for step in rest.as_slice() {
-                walk.value(&step.name)?;
-                expr(walk, &step.operand)?;
-            }
-            Ok(())
+            tick_steps(walk, rest.as_slice())
         }
         ExprTree::Operation {
             op,
@@ -150,8 +164,13 @@ fn has_hole(tree: &ExprTree) -> bool {
 }
 
 /// Whether a `_` is one of the scrutinees.
-fn is_hole(tree: &ExprTree) -> bool {
-    matches!(tree, ExprTree::Hole { .. })
+fn has_open_scrutinee(scrutinees: &[ExprTree]) -> bool {
+    for tree in scrutinees {
+        if let ExprTree::Hole { .. } = tree {
+            return true;
+        }
+    }
+    false
 }
 
 #[cycle(exprs)]
@@ -160,9 +179,7 @@ fn form(walk: &mut Walk, tree: &ExprTree) -> Result<(), NoMemory> {
     let lambdas = walk.lambdas;
     match tree {
         ExprTree::Lambda { binders, body, .. } => {
-            let mut names = Vec::new(walk.alloc);
-            all_bound(binders.as_slice(), &mut names)?;
-            walk.enter_all(&names)?;
+            enter_binders(walk, binders.as_slice())?;
             walk.lambdas = lambdas.saturating_add(1);
             expr(walk, body.get())?;
         }
@@ -171,7 +188,7 @@ fn form(walk: &mut Walk, tree: &ExprTree) -> Result<(), NoMemory> {
             alternatives: list,
             ..
         } => {
-            if scrutinees.as_slice().iter().any(is_hole) {
+            if has_open_scrutinee(scrutinees.as_slice()) {
                 walk.lambdas = lambdas.saturating_add(1);
             }
             exprs(walk, scrutinees.as_slice())?;

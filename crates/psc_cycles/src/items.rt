@@ -41,32 +41,56 @@ pub fn cycle_error(
     let classes = reach_themselves(alloc, &superclass_mentions(alloc, &tables, module)?)?;
     let mut walk = Walk::start(alloc, tables);
     let links = walk_values(&mut walk, module)?;
-    let values = bare_cycles(alloc, groups, &links.bare)?;
-    let mut first = First { found: None };
-    for (place, decl) in module.decls.as_slice().iter().enumerate() {
+    let cycles = Cycles {
+        synonyms,
+        classes,
+        values: bare_cycles(alloc, groups, &links.bare)?,
+    };
+    cycles.first(&walk, module)?.into_error(alloc, module)
+}
+
+/// For each declaration whether it needs itself, as a synonym, as a class and as a value.
+#[derive(Drop)]
+struct Cycles {
+    synonyms: Vec<bool>,
+    classes: Vec<bool>,
+    values: Vec<bool>,
+}
+
+impl Cycles {
+    /// The first of the declarations that need themselves, local ones among them.
+    fn first(&self, walk: &Walk, module: &Module) -> Result<First, NoMemory> {
+        let mut first = First { found: None };
+        for (place, decl) in module.decls.as_slice().iter().enumerate() {
+            self.offer(&mut first, place, decl)?;
+        }
+        if let Some(local) = &walk.found {
+            first.offer(Code::CycleInDeclaration, &local.name, local.span)?;
+        }
+        Ok(first)
+    }
+
+    /// Offers a declaration, if it needs itself.
+    fn offer(&self, first: &mut First, place: usize, decl: &Decl) -> Result<(), NoMemory> {
         match decl {
-            Decl::Synonym(synonym) if is_set(&synonyms, place) => first.offer(
+            Decl::Synonym(synonym) if is_set(&self.synonyms, place) => first.offer(
                 Code::CycleInTypeSynonym,
                 &synonym.name.name,
                 synonym.span,
-            )?,
-            Decl::Class(class) if is_set(&classes, place) => first.offer(
+            ),
+            Decl::Class(class) if is_set(&self.classes, place) => first.offer(
                 Code::CycleInDeclaration,
                 &class.name.name,
                 class.span,
-            )?,
-            Decl::Clause(one) if is_set(&values, place) => first.offer(
+            ),
+            Decl::Clause(one) if is_set(&self.values, place) => first.offer(
                 Code::CycleInDeclaration,
                 &one.name.name.0,
                 one.span,
-            )?,
-            _ => {}
+            ),
+            _ => Ok(()),
         }
     }
-    if let Some(local) = &walk.found {
-        first.offer(Code::CycleInDeclaration, &local.name, local.span)?;
-    }
-    first.into_error(alloc, module)
 }
 
 /// The first in the source of the declarations that need themselves.
@@ -113,21 +137,27 @@ fn walk_values(walk: &mut Walk, module: &Module) -> Result<Links, NoMemory> {
     let decls = module.decls.as_slice();
     walk.open_module(decls.len())?;
     for decl in decls {
-        match decl {
-            Decl::Clause(one) => {
-                walk.begin_value(&one.name.name.0);
-                clause(walk, one)?;
-            }
-            Decl::Instance(instance) => {
-                walk.begin(None);
-                for member in instance.members.as_slice() {
-                    clause(walk, member)?;
-                }
-            }
-            _ => {}
-        }
+        walk_decl(walk, decl)?;
     }
     Ok(walk.module_links())
+}
+
+/// Notes what a value or an instance mentions.
+fn walk_decl(walk: &mut Walk, decl: &Decl) -> Result<(), NoMemory> {
+    match decl {
+        Decl::Clause(one) => {
+            walk.begin_value(&one.name.name.0);
+            clause(walk, one)
+        }
+        Decl::Instance(instance) => {
+            walk.begin(None);
+            for member in instance.members.as_slice() {
+                clause(walk, member)?;
+            }
+            Ok(())
+        }
+        _ => Ok(()),
+    }
 }
 
 /// Adds what a declaration mentions of types, synonyms and classes.
@@ -164,13 +194,19 @@ fn synonym_mentions(
     let decls = module.decls.as_slice();
     let mut all = Vec::new(alloc);
     for decl in decls {
-        let mut found = Vec::new(alloc);
-        if let Decl::Synonym(synonym) = decl {
-            type_mentions(tables, &synonym.body, &mut found)?;
-        }
+        let found = mentioned_by_synonym(alloc, tables, decl)?;
         all.push(synonyms_of(alloc, decls, &found)?)?;
     }
     Ok(all)
+}
+
+/// What a declaration mentions of types, synonyms and classes, if it is a synonym.
+fn mentioned_by_synonym(alloc: Global, tables: &Tables, decl: &Decl) -> Result<Vec<u32>, NoMemory> {
+    let mut found = Vec::new(alloc);
+    if let Decl::Synonym(synonym) = decl {
+        type_mentions(tables, &synonym.body, &mut found)?;
+    }
+    Ok(found)
 }
 
 /// The synonyms among declarations.
@@ -192,15 +228,20 @@ fn superclass_mentions(
 ) -> Result<Vec<Vec<u32>>, NoMemory> {
     let mut all = Vec::new(alloc);
     for decl in module.decls.as_slice() {
-        let mut found = Vec::new(alloc);
-        if let Decl::Class(class) = decl {
-            for constraint in class.supers.as_slice() {
-                if let Some(number) = tables.type_of(&constraint.class) {
-                    found.push(number)?;
-                }
-            }
-        }
-        all.push(found)?;
+        all.push(superclasses_of(alloc, tables, decl)?)?;
     }
     Ok(all)
+}
+
+/// The superclasses of a declaration, if it is a class.
+fn superclasses_of(alloc: Global, tables: &Tables, decl: &Decl) -> Result<Vec<u32>, NoMemory> {
+    let mut found = Vec::new(alloc);
+    if let Decl::Class(class) = decl {
+        for constraint in class.supers.as_slice() {
+            if let Some(number) = tables.type_of(&constraint.class) {
+                found.push(number)?;
+            }
+        }
+    }
+    Ok(found)
 }

@@ -3,6 +3,8 @@
 //! Each block of bindings has numbers for its members. A mention of a member inside a member is one of the block's mentions,
 //! and it is bare where no lambda stands between the member and it.
 
+ghost use Rattle.std.specs.Prelude.{◌≡◌, ◌<◌, ◌↔◌, ◌⊎◌, IsTrue};
+
 use crate::tables::Tables;
 use psc_ast::{LabelAt, Mention};
 use psc_groups::{BindingGroup, are_declared, binding_groups};
@@ -73,8 +75,13 @@ pub(crate) struct Walk {
 }
 
 /// Whether a place begins before another.
-pub(crate) fn is_before(one: Span, other: Span) -> bool {
-    one.line < other.line || (one.line == other.line && one.column < other.column)
+pub(crate) fn is_before(one: Span, other: Span) -> bool
+    ensures { IsTrue result ↔ ((one.line < other.line) ⊎ ((one.line ≡ other.line) × (one.column < other.column))) }
+{
+    if one.line < other.line {
+        return true;
+    }
+    one.line == other.line && one.column < other.column
 }
 
 impl Links {

@@ -36,9 +36,13 @@ done t = Ok (Done t)
 abbrev pub finished : Result Head ExpandFault → Result Ty ExpandFault
 finished h = and_then h finish
 
-unfoldable pub all_finished : List (Result Head ExpandFault) → Result (List Ty) ExpandFault
-all_finished [] = Ok []
-all_finished (h ∷ hs) = and_then (finished h) (λ t. and_then (all_finished hs) (λ ts. Ok (t ∷ ts)))
+-- the types behind those that are there already; the first fault counts
+unfoldable pub finished_onto : List Ty → List (Result Head ExpandFault) → Result (List Ty) ExpandFault
+finished_onto ts [] = Ok ts
+finished_onto ts (h ∷ hs) = and_then (finished h) (λ t. finished_onto (ts ++ t ∷ []) hs)
+
+abbrev pub all_finished : List (Result Head ExpandFault) → Result (List Ty) ExpandFault
+all_finished hs = finished_onto [] hs
 
 abbrev pub head_step : List Prepared → Ty-F (Result Head ExpandFault) (Result Constraint ExpandFault) → Result Head ExpandFault
 head_step table (Ty-F.Var name) = done (ty.Var name)

@@ -40,7 +40,7 @@ filled given t = done_of (limited (substitute given t))
 abbrev pub one : Ident → Ty → List Replaced
 one name t = record { name = name; by = t } ∷ []
 
-abbrev pub filled_or_waiting : Qualified → List Ident → Ty → List Replaced → Result Head ExpandFault
+unfoldable pub filled_or_waiting : Qualified → List Ident → Ty → List Replaced → Result Head ExpandFault
 filled_or_waiting name params t given = if length given == length params then filled given t else Ok (Waiting name params t given)
 
 abbrev pub apply_at : Qualified → List Ident → Ty → List Replaced → Ty → Option Ident → Result Head ExpandFault
@@ -48,6 +48,6 @@ apply_at name params t given a None = Err (Partial name)
 apply_at name params t given a (Some x) = filled_or_waiting name params t (given ++ one x a)
 
 -- the head with one more argument
-abbrev pub apply : Head → Ty → Result Head ExpandFault
+unfoldable pub apply : Head → Ty → Result Head ExpandFault
 apply (Done t) a = Ok (Done (ty.App t a))
 apply (Waiting name params t given) a = apply_at name params t given a (slice_get params (length given))

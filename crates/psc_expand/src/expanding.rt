@@ -1,12 +1,14 @@
 //! Types without synonyms, over synonyms whose bodies are expanded already.
 
 ghost use Rattle.std.specs.Prelude.{◌≡◌, IfOk};
+ghost use Rattle.psc_type.specs.declared.ty.Ty.TheVariants as ty;
 ghost use Rattle.psc_expand.specs.Expand as spec;
+ghost use Rattle.psc_expand.specs.Head as heads;
 
 use crate::head::{Head, Prepared, apply, begin, finish, limited};
 use psc_items::{Shared, SharedItems};
-use psc_text::{NoMemory, Qualified};
-use psc_type::{Constraint, ExpandFault, Ty};
+use psc_text::{Ident, Label, NoMemory, Qualified};
+use psc_type::{Constraint, ExpandFault, Kind, Ty};
 use std::alloc::Global;
 
 /// The type without synonyms, where it is not too large.
@@ -51,38 +53,93 @@ fn head(alloc: Global, ty: &Ty, table: &[Prepared]) -> Result<Result<Head, Expan
         Ty::Con(name) => start(alloc, table, name),
         Ty::App(function, argument) => match head(alloc, function.get(), table)? {
             Err(fault) => Ok(Err(fault)),
-            Ok(front) => match part(alloc, argument.get(), table)? {
-                Err(fault) => Ok(Err(fault)),
-                Ok(argument) => apply(alloc, front, argument),
-            },
+            Ok(front) => applied(alloc, argument.get(), &front, table),
         },
-        Ty::Forall(name, kind, body) => match part(alloc, body.get(), table)? {
-            Err(fault) => Ok(Err(fault)),
-            Ok(body) => {
-                let body = Shared::new(alloc, body)?;
-                Ok(Ok(Head::Done(Ty::Forall(name.clone()?, kind.clone()?, body))))
-            }
-        },
+        Ty::Forall(name, kind, body) => quantified(alloc, body.get(), name, kind, table),
         Ty::Given(given, body) => match constraint(alloc, given, table)? {
             Err(fault) => Ok(Err(fault)),
-            Ok(given) => match part(alloc, body.get(), table)? {
-                Err(fault) => Ok(Err(fault)),
-                Ok(body) => Ok(Ok(Head::Done(Ty::Given(given, Shared::new(alloc, body)?)))),
-            },
+            Ok(given) => constrained(alloc, body.get(), given, table),
         },
         Ty::RowCons(label, first, rest) => match part(alloc, first.get(), table)? {
             Err(fault) => Ok(Err(fault)),
-            Ok(first) => match part(alloc, rest.get(), table)? {
-                Err(fault) => Ok(Err(fault)),
-                Ok(rest) => {
-                    let first = Shared::new(alloc, first)?;
-                    let rest = Shared::new(alloc, rest)?;
-                    Ok(Ok(Head::Done(Ty::RowCons(label.clone()?, first, rest))))
-                }
-            },
+            Ok(first) => row_of(alloc, rest.get(), label, &first, table),
         },
         Ty::Var(_) | Ty::Unknown(_) | Ty::RowNil | Ty::Symbol(_) | Ty::Any(_) => {
             Ok(Ok(Head::Done(ty.clone()?)))
+        }
+    }
+}
+
+/// What a head becomes with one argument more.
+#[cycle(expand)]
+fn applied(
+    alloc: Global,
+    argument: &Ty,
+    front: &Head,
+    table: &[Prepared],
+) -> Result<Result<Head, ExpandFault>, NoMemory>
+    ensures { IfOk result (λ r. r ≡ spec.and_then (spec.part table.now argument.now) (λ t. heads.apply front.now t)) }
+{
+    match part(alloc, argument, table)? {
+        Err(fault) => Ok(Err(fault)),
+        Ok(argument) => apply(alloc, front, argument),
+    }
+}
+
+/// A type under a variable.
+#[cycle(expand)]
+fn quantified(
+    alloc: Global,
+    body: &Ty,
+    name: &Ident,
+    kind: &Kind,
+    table: &[Prepared],
+) -> Result<Result<Head, ExpandFault>, NoMemory>
+    ensures { IfOk result (λ r. r ≡ spec.and_then (spec.part table.now body.now) (λ t. spec.done (ty.Forall name.now kind.now t))) }
+{
+    match part(alloc, body, table)? {
+        Err(fault) => Ok(Err(fault)),
+        Ok(body) => {
+            let body = Shared::new(alloc, body)?;
+            let name = name.clone()?;
+            Ok(Ok(Head::Done(Ty::Forall(name, kind.clone()?, body))))
+        }
+    }
+}
+
+/// A type behind a constraint.
+#[cycle(expand)]
+fn constrained(
+    alloc: Global,
+    body: &Ty,
+    given: Constraint,
+    table: &[Prepared],
+) -> Result<Result<Head, ExpandFault>, NoMemory>
+    ensures { IfOk result (λ r. r ≡ spec.and_then (spec.part table.now body.now) (λ t. spec.done (ty.Given given t))) }
+{
+    match part(alloc, body, table)? {
+        Err(fault) => Ok(Err(fault)),
+        Ok(body) => Ok(Ok(Head::Done(Ty::Given(given, Shared::new(alloc, body)?)))),
+    }
+}
+
+/// A row that begins with a field.
+#[cycle(expand)]
+fn row_of(
+    alloc: Global,
+    rest: &Ty,
+    label: &Label,
+    first: &Ty,
+    table: &[Prepared],
+) -> Result<Result<Head, ExpandFault>, NoMemory>
+    ensures { IfOk result (λ r. r ≡ spec.and_then (spec.part table.now rest.now) (λ t. spec.done (ty.RowCons label.now first.now t))) }
+{
+    match part(alloc, rest, table)? {
+        Err(fault) => Ok(Err(fault)),
+        Ok(rest) => {
+            let rest = Shared::new(alloc, rest)?;
+            let first = Shared::new(alloc, first.clone()?)?;
+            Ok(Ok(Head::Done(Ty::RowCons(label.clone()?, first, rest))))
         }
     }
 }
@@ -116,7 +173,7 @@ fn constraint(
 }
 
 #[cycle(expand)]
-#[tactic(auto, using(crate::proofs::ExpandRules::turns))]
+#[tactic(auto, unfolding(crate::specs::Expand::finished_onto))]
 fn parts(
     alloc: Global,
     args: &[Ty],

@@ -1,6 +1,6 @@
 //! What a type is before its arguments are known.
 
-ghost use Rattle.std.specs.Prelude.{◌≡◌, ◌++◌, IfOk};
+ghost use Rattle.std.specs.Prelude.{◌≡◌, ◌++◌, length, slice_get, IfOk};
 ghost use Rattle.psc_expand.specs.Head as spec;
 
 use psc_items::{Shared, SharedItems};
@@ -84,6 +84,16 @@ fn filled(
     }
 }
 
+fn copied(alloc: Global, given: &[Replaced]) -> Result<Vec<Replaced>, NoMemory>
+    ensures { IfOk result (λ copy. copy.items ≡ given.now) }
+{
+    let mut copy = Vec::new(alloc);
+    for one in given {
+        copy.push(one.clone()?)?;
+    }
+    Ok(copy)
+}
+
 fn with_one_more(
     alloc: Global,
     given: &[Replaced],
@@ -92,42 +102,72 @@ fn with_one_more(
 ) -> Result<SharedItems<Replaced>, NoMemory>
     ensures { IfOk result (λ items. items ≡ given.now ++ spec.one name.now by) }
 {
-    let mut items = Vec::new(alloc);
-    for one in given {
-        items.push(one.clone()?)?;
-    }
-    items.push(Replaced {
-        name: name.clone()?,
-        by,
-    })?;
+    let mut items = copied(alloc, given)?;
+    let name = name.clone()?;
+    items.push(Replaced { name, by })?;
     Ok(SharedItems::from_vec(alloc, items)?)
 }
 
-/// The head with one more argument.
-pub(crate) fn apply(
+/// The head that a synonym becomes with these arguments.
+#[tactic(auto, unfolding(crate::specs::Head::filled_or_waiting))]
+fn filled_or_waiting(
     alloc: Global,
-    head: Head,
+    name: &Qualified,
+    params: &SharedItems<Ident>,
+    body: &Ty,
+    given: SharedItems<Replaced>,
+) -> Result<Result<Head, ExpandFault>, NoMemory>
+    ensures { IfOk result (λ r. r ≡ spec.filled_or_waiting name.now params.now body.now given) }
+{
+    if given.len() == params.len() {
+        return filled(alloc, given.as_slice(), body);
+    }
+    let (name, params) = (name.clone()?, params.clone()?);
+    Ok(Ok(Head::Waiting(name, params, body.clone()?, given)))
+}
+
+/// The head that a synonym which waits becomes with one more argument.
+fn taken(
+    alloc: Global,
+    name: &Qualified,
+    params: &SharedItems<Ident>,
+    body: &Ty,
+    given: &[Replaced],
     argument: Ty,
 ) -> Result<Result<Head, ExpandFault>, NoMemory>
-    ensures { IfOk result (λ r. r ≡ spec.apply head argument) }
+    ensures { IfOk result (λ r. r ≡ spec.apply_at name.now params.now body.now given.now argument (slice_get params.now (length given.now))) }
+{
+    match params.as_slice().get(given.len()) {
+        None => Ok(Err(ExpandFault::Partial(name.clone()?))),
+        Some(param) => {
+            let given = with_one_more(alloc, given, param, argument)?;
+            filled_or_waiting(alloc, name, params, body, given)
+        }
+    }
+}
+
+/// The head with one more argument.
+#[tactic(auto, unfolding(crate::specs::Head::apply))]
+pub(crate) fn apply(
+    alloc: Global,
+    head: &Head,
+    argument: Ty,
+) -> Result<Result<Head, ExpandFault>, NoMemory>
+    ensures { IfOk result (λ r. r ≡ spec.apply head.now argument) }
 {
     match head {
         Head::Done(ty) => {
-            let function = Shared::new(alloc, ty)?;
-            Ok(Ok(Head::Done(Ty::App(function, Shared::new(alloc, argument)?))))
+            let argument = Shared::new(alloc, argument)?;
+            let function = Shared::new(alloc, ty.clone()?)?;
+            Ok(Ok(Head::Done(Ty::App(function, argument))))
         }
-        Head::Waiting(name, params, body, given) => {
-            match params.as_slice().get(given.len()) {
-                None => Ok(Err(ExpandFault::Partial(name))),
-                Some(param) => {
-                    let given = with_one_more(alloc, given.as_slice(), param, argument)?;
-                    if given.len() == params.len() {
-                        filled(alloc, given.as_slice(), &body)
-                    } else {
-                        Ok(Ok(Head::Waiting(name, params, body, given)))
-                    }
-                }
-            }
-        }
+        Head::Waiting(name, params, body, given) => taken(
+            alloc,
+            name,
+            params,
+            body,
+            given.as_slice(),
+            argument,
+        ),
     }
 }

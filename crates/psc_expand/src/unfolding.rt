@@ -22,9 +22,13 @@ pub struct Unfolding {
 
 impl Model for Unfolding {
     ghost use Rattle.std.specs.Prelude.{List};
+    ghost use Rattle.std.specs.Coded.{codes};
+    ghost use Rattle.psc_type.specs.contracts.ty.Ty as types;
     ghost use Rattle.psc_expand.specs.declared.head.Prepared.{Prepared};
 
     ghost Value = { List Prepared };
+
+    ghost coded = { Prim.hlevel (codes, types.the_row.coded) };
 
     ghost view = { λ u. u.table.items };
 }
@@ -68,12 +72,10 @@ pub fn expand(
 }
 
 fn prepared(alloc: Global, row: &Synonym, table: &[Prepared]) -> Result<Prepared, NoMemory> {
+    let name = row.name.clone()?;
+    let params = row.params.clone()?;
     let body = expand_over(alloc, &row.body, table)?;
-    Ok(Prepared {
-        name: row.name.clone()?,
-        params: row.params.clone()?,
-        body,
-    })
+    Ok(Prepared { name, params, body })
 }
 
 /// The place of the first row of each name.
@@ -90,6 +92,7 @@ fn places_of(alloc: Global, rows: &[Synonym]) -> Result<BTreeMap<Qualified, u32>
 }
 
 /// For each row the places of those that its body mentions.
+#[tactic(auto, using(crate::proofs::Mentioning::no_lists, crate::proofs::Mentioning::one_list))]
 fn mentions_of(
     alloc: Global,
     rows: &[Synonym],
@@ -105,6 +108,7 @@ fn mentions_of(
 }
 
 /// The places below an end that the type mentions.
+#[tactic(auto, using(crate::proofs::Mentioning::no_places))]
 fn mentions_in(
     alloc: Global,
     ty: &Ty,
@@ -119,13 +123,15 @@ fn mentions_in(
 }
 
 /// Notes a place. Each is below the number of rows.
+#[tactic(auto, using(crate::proofs::Mentioning::one_place))]
 fn add_place(place: u32, end: usize, list: &mut Vec<u32>) -> Result<(), NoMemory>
     requires { AllBelow list.old.items end }
     ensures { OnOk result (AllBelow list.new.items end) }
 {
-    if (place as usize) < end {
-        list.push(place)?;
+    if (place as usize) >= end {
+        return Ok(());
     }
+    list.push(place)?;
     Ok(())
 }
 

@@ -1,5 +1,8 @@
 //! A module without chains, one declaration after the other.
 
+ghost use Rattle.std.specs.Prelude.{◌≡◌, [], IfOk};
+ghost use Rattle.psc_error.specs.declared.code.Code.TheVariants.{TooDeep};
+
 use crate::binds::clause;
 use crate::state::{Bracketing, FUEL, Refusal, in_order};
 use crate::types::{constraint_list, kind_size, sig, type_list, vars_size, x_type};
@@ -55,7 +58,11 @@ pub fn rebracket(
     }))
 }
 
-fn refused(alloc: Global, module: &ModuleName, refusal: Refusal) -> Result<PsError, NoMemory> {
+fn refused(alloc: Global, module: &ModuleName, refusal: Refusal) -> Result<PsError, NoMemory>
+    ensures code { IfOk result (λ error. error.code ≡ refusal.code) }
+    ensures place { IfOk result (λ error. error.span ≡ refusal.span) }
+    ensures parts { IfOk result (λ error. error.parts ≡ refusal.parts.items) }
+{
     let Refusal { code, span, parts } = refusal;
     Ok(PsError {
         code,
@@ -65,7 +72,11 @@ fn refused(alloc: Global, module: &ModuleName, refusal: Refusal) -> Result<PsErr
     })
 }
 
-fn too_deep(alloc: Global, module: &ModuleName, span: Span) -> Result<PsError, NoMemory> {
+fn too_deep(alloc: Global, module: &ModuleName, span: Span) -> Result<PsError, NoMemory>
+    ensures code { IfOk result (λ error. error.code ≡ TooDeep) }
+    ensures place { IfOk result (λ error. error.span ≡ span) }
+    ensures parts { IfOk result (λ error. error.parts ≡ []) }
+{
     Ok(PsError {
         code: Code::TooDeep,
         module: Some(module.clone()?),

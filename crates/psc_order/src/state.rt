@@ -1,6 +1,6 @@
 //! What the bracketing of a module knows and finds.
 
-ghost use Rattle.std.specs.Prelude.{◌≡◌, ◌+◌, length, IfOk};
+ghost use Rattle.std.specs.Prelude.{◌≡◌, ◌+◌, length, reverse, IfOk};
 
 use psc_ast::{Fixities, Mention, Side};
 use psc_brackets::{Clash, Operator};
@@ -251,14 +251,22 @@ fn pieces_of<T: Drop>(alloc: Global, reading: Reading<T>) -> Result<Pieces<T>, N
 }
 
 /// The elements of a list, in their order.
-pub(crate) fn in_order<T: Drop>(alloc: Global, items: Items<T>) -> Result<Vec<T>, NoMemory> {
+pub(crate) fn in_order<T: Drop>(alloc: Global, items: Items<T>) -> Result<Vec<T>, NoMemory>
+    ensures { IfOk result (λ list. list.items ≡ items) }
+{
+    let mut list = backwards(alloc, items)?;
+    list.reverse();
+    Ok(list)
+}
+
+/// The elements of a list, the last one first.
+fn backwards<T: Drop>(alloc: Global, items: Items<T>) -> Result<Vec<T>, NoMemory>
+    ensures { IfOk result (λ list. list.items ≡ reverse items) }
+{
     let mut items = items;
     let mut list = Vec::new(alloc);
-    for _ in 0..items.len() {
-        if let Some(item) = items.pop() {
-            list.push(item)?;
-        }
+    while let Some(item) = items.pop() {
+        list.push(item)?;
     }
-    list.reverse();
     Ok(list)
 }

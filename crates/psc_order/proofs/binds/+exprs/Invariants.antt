@@ -1,5 +1,5 @@
 use Rattle.std.proofs.Common.{◌*◌, ◌+◌}
-use Rattle.psc_order.proofs.exprs.+exprs.Given as goal
+use Rattle.psc_order.proofs.binds.+exprs.Given as goal
 
 abbrev pub decreases-expr : goal.decreases-expr
 decreases-expr l = 64 * l.fuel + 0
