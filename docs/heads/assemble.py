@@ -11,7 +11,7 @@ def sections(path):
             hit = [k for k in KINDS if k.lower() in m.group(1).lower()]
             if hit:
                 kind = hit[0]; got.setdefault(kind, []); continue
-            if line.startswith('# '):
+            if line.startswith('# ') or 'For docs/' in line:
                 kind = None; continue
         if kind: got[kind].append(line.rstrip('\n'))
     return {k: '\n'.join(v).strip('\n') for k, v in got.items()}

@@ -75,44 +75,39 @@ fn shown(rt: &HostRuntime, words: &[&str]) -> Result<String, Fail> {
 
 #[test]
 fn each_operator_takes_what_binds_tighter(rt: HostRuntime) -> Result<(), Fail> {
-    assert_eq!(rt; shown(&rt, &[])?.as_str(), "0");
-    assert_eq!(rt; shown(&rt, &["+"])?.as_str(), "(0 + 1)");
-    assert_eq!(rt; shown(&rt, &["+", "*"])?.as_str(), "(0 + (1 * 2))");
-    assert_eq!(rt; shown(&rt, &["*", "+"])?.as_str(), "((0 * 1) + 2)");
-    assert_eq!(rt;
-        shown(&rt, &["+", "-", "+"])?.as_str(),
-        "(((0 + 1) - 2) + 3)"
-    );
-    assert_eq!(rt;
-        shown(&rt, &["<>", "<>", "<>"])?.as_str(),
-        "(0 <> (1 <> (2 <> 3)))"
-    );
-    assert_eq!(rt;
-        shown(&rt, &["$", "==", "+", "*", "-", "$", "<>"])?.as_str(),
-        "(0 $ ((1 == ((2 + (3 * 4)) - 5)) $ (6 <> 7)))"
-    );
+    let rows: [(&[&str], &str); 9] = [
+        (&[], "0"),
+        (&["+"], "(0 + 1)"),
+        (&["+", "*"], "(0 + (1 * 2))"),
+        (&["*", "+"], "((0 * 1) + 2)"),
+        (&["+", "-", "+"], "(((0 + 1) - 2) + 3)"),
+        (&["<>", "<>", "<>"], "(0 <> (1 <> (2 <> 3)))"),
+        (
+            &["$", "==", "+", "*", "-", "$", "<>"],
+            "(0 $ ((1 == ((2 + (3 * 4)) - 5)) $ (6 <> 7)))",
+        ),
+        (&["==", "$", "=="], "((0 == 1) $ (2 == 3))"),
+        (
+            &["<>", "+", "<>", ":", "*", ":"],
+            "(0 <> ((1 + 2) <> (3 : ((4 * 5) : 6))))",
+        ),
+    ];
+    for (words, want) in rows {
+        assert_eq!(rt; shown(&rt, words)?.as_str(), want);
+    }
     Ok(())
 }
 
 #[test]
 fn the_first_operator_that_clashes_is_told(rt: HostRuntime) -> Result<(), Fail> {
-    assert_eq!(rt; shown(&rt, &["==", "=="])?.as_str(), "clash of 0 and 1");
-    assert_eq!(rt;
-        shown(&rt, &["==", "+", "*", "=="])?.as_str(),
-        "clash of 0 and 3"
-    );
-    assert_eq!(rt;
-        shown(&rt, &["==", "$", "=="])?.as_str(),
-        "((0 == 1) $ (2 == 3))"
-    );
-    assert_eq!(rt; shown(&rt, &["+", ":"])?.as_str(), "clash of 0 and 1");
-    assert_eq!(rt;
-        shown(&rt, &[":", "*", "+", "==", "=="])?.as_str(),
-        "clash of 0 and 2"
-    );
-    assert_eq!(rt;
-        shown(&rt, &["<>", "+", "<>", ":", "*", ":"])?.as_str(),
-        "(0 <> ((1 + 2) <> (3 : ((4 * 5) : 6))))"
-    );
+    let rows: [(&[&str], &str); 4] = [
+        (&["==", "=="], "clash of 0 and 1"),
+        (&["==", "+", "*", "=="], "clash of 0 and 3"),
+        (&["+", ":"], "clash of 0 and 1"),
+        (&[":", "*", "+", "==", "=="], "clash of 0 and 2"),
+    ];
+    for (words, want) in rows {
+        assert_eq!(rt; shown(&rt, words)?.as_str(), want);
+    }
     Ok(())
 }

@@ -38,48 +38,34 @@ fn shown(rt: &HostRuntime, mentions: &[&[u32]]) -> Result<String, Fail> {
 
 #[test]
 fn groups_of_mutual_recursion(rt: HostRuntime) -> Result<(), Fail> {
-    assert_eq!(rt; shown(&rt, &[])?.as_str(), "");
-    assert_eq!(rt; shown(&rt, &[&[]])?.as_str(), "(0)");
-    assert_eq!(rt; shown(&rt, &[&[0]])?.as_str(), "[0]");
-    assert_eq!(rt; shown(&rt, &[&[1], &[0]])?.as_str(), "[0 1]");
-    assert_eq!(rt;
-        shown(&rt, &[&[1], &[2], &[0], &[0]])?.as_str(),
-        "[0 1 2](3)"
-    );
-    assert_eq!(rt;
-        shown(&rt, &[&[1, 3], &[2], &[1], &[4], &[3]])?.as_str(),
-        "[1 2][3 4](0)"
-    );
-    assert_eq!(rt;
-        shown(&rt, &[&[2], &[0], &[3], &[1]])?.as_str(),
-        "[0 1 2 3]"
-    );
-    assert_eq!(rt;
-        shown(&rt, &[&[1], &[1, 1], &[0, 2]])?.as_str(),
-        "[1](0)[2]"
-    );
+    let rows: [(&[&[u32]], &str); 8] = [
+        (&[], ""),
+        (&[&[]], "(0)"),
+        (&[&[0]], "[0]"),
+        (&[&[1], &[0]], "[0 1]"),
+        (&[&[1], &[2], &[0], &[0]], "[0 1 2](3)"),
+        (&[&[1, 3], &[2], &[1], &[4], &[3]], "[1 2][3 4](0)"),
+        (&[&[2], &[0], &[3], &[1]], "[0 1 2 3]"),
+        (&[&[1], &[1, 1], &[0, 2]], "[1](0)[2]"),
+    ];
+    for (mentions, want) in rows {
+        assert_eq!(rt; shown(&rt, mentions)?.as_str(), want);
+    }
     Ok(())
 }
 
 #[test]
 fn the_earliest_ready_group_comes_first(rt: HostRuntime) -> Result<(), Fail> {
-    assert_eq!(rt; shown(&rt, &[&[], &[], &[]])?.as_str(), "(0)(1)(2)");
-    assert_eq!(rt; shown(&rt, &[&[2], &[], &[]])?.as_str(), "(1)(2)(0)");
-    assert_eq!(rt;
-        shown(&rt, &[&[1], &[3], &[], &[]])?.as_str(),
-        "(2)(3)(1)(0)"
-    );
-    assert_eq!(rt;
-        shown(&rt, &[&[3, 4], &[], &[3], &[], &[]])?.as_str(),
-        "(1)(3)(2)(4)(0)"
-    );
-    assert_eq!(rt;
-        shown(&rt, &[&[4], &[4], &[1, 0], &[2, 2], &[]])?.as_str(),
-        "(4)(0)(1)(2)(3)"
-    );
-    assert_eq!(rt;
-        shown(&rt, &[&[5, 1], &[4], &[3], &[2], &[], &[4]])?.as_str(),
-        "[2 3](4)(1)(5)(0)"
-    );
+    let rows: [(&[&[u32]], &str); 6] = [
+        (&[&[], &[], &[]], "(0)(1)(2)"),
+        (&[&[2], &[], &[]], "(1)(2)(0)"),
+        (&[&[1], &[3], &[], &[]], "(2)(3)(1)(0)"),
+        (&[&[3, 4], &[], &[3], &[], &[]], "(1)(3)(2)(4)(0)"),
+        (&[&[4], &[4], &[1, 0], &[2, 2], &[]], "(4)(0)(1)(2)(3)"),
+        (&[&[5, 1], &[4], &[3], &[2], &[], &[4]], "[2 3](4)(1)(5)(0)"),
+    ];
+    for (mentions, want) in rows {
+        assert_eq!(rt; shown(&rt, mentions)?.as_str(), want);
+    }
     Ok(())
 }

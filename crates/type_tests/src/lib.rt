@@ -1,5 +1,5 @@
-//! The tests of types and of what is built on them, by public calls: `psc_type`, `psc_type_text`, `psc_groups`,
-//! `psc_brackets` and `psc_unify`.
+//! The tests of types and of what is built on them, by public calls: `psc_type`, `psc_type_text`, `psc_groups` and
+//! `psc_brackets`. Each is a table, so that a new row needs no new proof.
 #![tactic(auto)]
 
 #[cfg(test)]
@@ -7,8 +7,8 @@ mod brackets;
 #[cfg(test)]
 mod groups;
 #[cfg(test)]
-mod solver;
-#[cfg(test)]
 mod texts;
 #[cfg(test)]
 mod types;
+#[cfg(test)]
+mod words;

@@ -1,157 +1,39 @@
-//! Texts of types and kinds, whole, against texts that were written by hand.
-//!
-//! A row has a type as words, each before its parts and with `;` between them, and the text that it has.
+//! Texts of types and kinds, whole, against texts that were written by hand: a row has a type as words and its text.
 
-use psc_items::{Shared, SharedItems};
-use psc_text::{Ident, Label, NoMemory, Qualified, Text, read_module_name};
-use psc_type::{Constraint, Kind, Ty};
+use crate::words::Make;
+use psc_items::Shared;
+use psc_text::NoMemory;
+use psc_type::{Kind, Ty};
 use psc_type_text::{kind_text, type_text};
 use std::alloc::Global;
 use std::test::Fail;
 
-/// Makes types from their words.
-#[derive(Clone, Copy)]
-struct Make {
-    alloc: Global,
+fn shows(make: Make, words: &str, want: &str) -> Result<bool, NoMemory> {
+    match make.ty(words)? {
+        Some(ty) => Ok(type_text(make.alloc, &ty)?.as_str() == want),
+        None => Ok(false),
+    }
 }
 
-impl Make {
-    fn name(self, module: &str, name: &str) -> Result<Qualified, NoMemory> {
-        Ok(Qualified {
-            module: read_module_name(self.alloc, module)?,
-            name: Text::new(self.alloc, name)?,
-        })
+/// A name applied to itself, that to itself, and so on: 2 ^ (times + 1) - 1 nodes.
+fn doubled(make: Make, times: u32) -> Result<Ty, NoMemory> {
+    let mut ty = Ty::Con(make.name("Data.Sample", "N")?);
+    for _ in 0..times {
+        ty = make.app(ty.clone()?, ty)?;
     }
+    Ok(ty)
+}
 
-    fn app(self, function: Ty, argument: Ty) -> Result<Ty, NoMemory> {
-        let function = Shared::new(self.alloc, function)?;
-        Ok(Ty::App(function, Shared::new(self.alloc, argument)?))
+/// A type of 19,999 nodes and so many more.
+fn large(make: Make, more: u32) -> Result<Ty, NoMemory> {
+    let mut ty = doubled(make, 13)?;
+    for times in [10, 9, 8, 4] {
+        ty = make.app(ty, doubled(make, times)?)?;
     }
-
-    fn forall(self, name: &str, body: Ty) -> Result<Ty, NoMemory> {
-        let name = Ident(Text::new(self.alloc, name)?);
-        Ok(Ty::Forall(name, Kind::Star, Shared::new(self.alloc, body)?))
+    for _ in 0..more {
+        ty = make.forall("a", ty)?;
     }
-
-    /// A class without arguments.
-    fn given_none(self, class: &str, body: Ty) -> Result<Ty, NoMemory> {
-        let class = self.name("Data.Sample", class)?;
-        let args = SharedItems::from_vec(self.alloc, Vec::new(self.alloc))?;
-        Ok(Ty::Given(Constraint { class, args }, Shared::new(self.alloc, body)?))
-    }
-
-    /// A class of one argument.
-    fn given_one(self, class: &str, argument: Ty, body: Ty) -> Result<Ty, NoMemory> {
-        let class = self.name("Data.Sample", class)?;
-        let mut args = Vec::new(self.alloc);
-        args.push(argument)?;
-        let args = SharedItems::from_vec(self.alloc, args)?;
-        Ok(Ty::Given(Constraint { class, args }, Shared::new(self.alloc, body)?))
-    }
-
-    fn row(self, label: &str, first: Ty, rest: Ty) -> Result<Ty, NoMemory> {
-        let label = Label(Text::new(self.alloc, label)?);
-        let first = Shared::new(self.alloc, first)?;
-        Ok(Ty::RowCons(label, first, Shared::new(self.alloc, rest)?))
-    }
-
-    fn arrow(self, from: Ty, to: Ty) -> Result<Ty, NoMemory> {
-        let function = Ty::Con(self.name("Prim", "Function")?);
-        self.app(self.app(function, from)?, to)
-    }
-
-    fn record(self, row: Ty) -> Result<Ty, NoMemory> {
-        self.app(Ty::Con(self.name("Prim", "Record")?), row)
-    }
-
-    /// What a word without a name makes of its parts.
-    fn bare(self, word: &str, stack: &mut Vec<Ty>) -> Result<Option<Ty>, NoMemory> {
-        match word {
-            "nil" => return Ok(Some(Ty::RowNil)),
-            "unknown" => return Ok(Some(Ty::Unknown(7))),
-            "any" => return Ok(Some(Ty::Any(Kind::Star))),
-            _ => {}
-        }
-        let Some(first) = stack.pop() else {
-            return Ok(None);
-        };
-        if word == "record" {
-            return Ok(Some(self.record(first)?));
-        }
-        match (word, stack.pop()) {
-            ("->", Some(second)) => Ok(Some(self.arrow(first, second)?)),
-            ("app", Some(second)) => Ok(Some(self.app(first, second)?)),
-            _ => Ok(None),
-        }
-    }
-
-    /// What a word with a name makes of its parts.
-    fn named(self, word: &str, name: &str, stack: &mut Vec<Ty>) -> Result<Option<Ty>, NoMemory> {
-        match word {
-            "var" => return Ok(Some(Ty::Var(Ident(Text::new(self.alloc, name)?)))),
-            "con" => return Ok(Some(Ty::Con(self.name("Data.Sample", name)?))),
-            "prim" => return Ok(Some(Ty::Con(self.name("Prim", name)?))),
-            "sym" => return Ok(Some(Ty::Symbol(Text::new(self.alloc, name)?))),
-            _ => {}
-        }
-        let Some(first) = stack.pop() else {
-            return Ok(None);
-        };
-        match word {
-            "forall" => return Ok(Some(self.forall(name, first)?)),
-            "given" => return Ok(Some(self.given_none(name, first)?)),
-            _ => {}
-        }
-        match (word, stack.pop()) {
-            ("class", Some(second)) => Ok(Some(self.given_one(name, first, second)?)),
-            ("row", Some(second)) => Ok(Some(self.row(name, first, second)?)),
-            _ => Ok(None),
-        }
-    }
-
-    /// The type that has these words.
-    fn ty(self, words: &str) -> Result<Option<Ty>, NoMemory> {
-        let mut stack = Vec::new(self.alloc);
-        for word in words.rsplit(';') {
-            let made = match word.split_once(' ') {
-                Some((word, name)) => self.named(word, name, &mut stack)?,
-                None => self.bare(word, &mut stack)?,
-            };
-            match made {
-                Some(ty) => stack.push(ty)?,
-                None => return Ok(None),
-            }
-        }
-        Ok(stack.pop())
-    }
-
-    fn shows(self, words: &str, want: &str) -> Result<bool, NoMemory> {
-        match self.ty(words)? {
-            Some(ty) => Ok(type_text(self.alloc, &ty)?.as_str() == want),
-            None => Ok(false),
-        }
-    }
-
-    /// A name applied to itself, that to itself, and so on: 2 ^ (times + 1) - 1 nodes.
-    fn doubled(self, times: u32) -> Result<Ty, NoMemory> {
-        let mut ty = Ty::Con(self.name("Data.Sample", "N")?);
-        for _ in 0..times {
-            ty = self.app(ty.clone()?, ty)?;
-        }
-        Ok(ty)
-    }
-
-    /// A type of 19,999 nodes and so many more.
-    fn large(self, more: u32) -> Result<Ty, NoMemory> {
-        let mut ty = self.doubled(13)?;
-        for times in [10, 9, 8, 4] {
-            ty = self.app(ty, self.doubled(times)?)?;
-        }
-        for _ in 0..more {
-            ty = self.forall("a", ty)?;
-        }
-        Ok(ty)
-    }
+    Ok(ty)
 }
 
 /// The first row whose type has another text.
@@ -161,7 +43,7 @@ fn first_wrong<'a>(
 ) -> Result<Option<&'a str>, NoMemory> {
     let make = Make { alloc };
     for (words, want) in rows {
-        if !make.shows(*words, *want)? {
+        if !shows(make, *words, *want)? {
             return Ok(Some(*want));
         }
     }
@@ -311,9 +193,9 @@ fn labels_that_are_no_lower_names_and_symbols_are_quoted(rt: HostRuntime) -> Res
 #[test]
 fn a_type_of_more_than_20_000_nodes_is_a_blank(rt: HostRuntime) -> Result<(), Fail> {
     let make = Make { alloc: rt.alloc() };
-    let most = type_text(rt.alloc(), &make.large(1)?)?;
+    let most = type_text(rt.alloc(), &large(make, 1)?)?;
     assert_ne!(rt; most.as_str(), "_");
-    let over = type_text(rt.alloc(), &make.large(2)?)?;
+    let over = type_text(rt.alloc(), &large(make, 2)?)?;
     assert_eq!(rt; over.as_str(), "_");
     Ok(())
 }
