@@ -28,9 +28,13 @@ variable at x = core.Var (plain at) (local x)
 abbrev pub undefined : Span → CoreExpr
 undefined at = core.Var (plain at) (record { «module» = Some (codes "Prim"); name = codes "undefined" })
 
+-- a lambda of this name
+abbrev pub lambda : Span → List ℕ → CoreExpr → CoreExpr
+lambda at x e = core.Abs (plain at) (record { 0 = x }) e
+
 -- a value that is put off: a lambda over `$u`
 abbrev pub thunk : Span → CoreExpr → CoreExpr
-thunk at e = core.Abs (plain at) (record { 0 = codes "$u" }) e
+thunk at e = lambda at (codes "$u") e
 
 abbrev pub applied : Span → CoreExpr → CoreExpr → CoreExpr
 applied at f a = core.App (plain at) f a

@@ -69,25 +69,37 @@ fn undefined(alloc: Global, at: Span) -> Result<CoreExpr, NoMemory>
     })
 }
 
-/// A value that is put off.
-pub fn thunk(alloc: Global, at: Span, value: CoreExpr) -> Result<CoreExpr, NoMemory>
-    ensures { IfOk result (λ core. core ≡ spec.thunk at value) }
-{
-    let argument = Ident(Text::new(alloc, "$u")?);
-    Ok(CoreExpr::Abs {
-        ann: Ann::plain(at),
-        argument,
-        body: Boxed::new(alloc, value)?,
-    })
-}
-
 /// An expression on the heap.
-fn boxed(alloc: Global, core: CoreExpr) -> Result<Boxed<CoreExpr>, NoMemory>
+pub(crate) fn boxed(alloc: Global, core: CoreExpr) -> Result<Boxed<CoreExpr>, NoMemory>
     ensures { IfOk result (λ made. made ≡ core) }
 {
     match Boxed::new(alloc, core) {
         Ok(made) => Ok(made),
         Err(_) => Err(NoMemory),
+    }
+}
+
+/// A lambda of this name.
+fn lambda(alloc: Global, at: Span, argument: Text, body: CoreExpr) -> Result<CoreExpr, NoMemory>
+    ensures { IfOk result (λ core. core ≡ spec.lambda at argument body) }
+{
+    match boxed(alloc, body) {
+        Ok(body) => Ok(CoreExpr::Abs {
+            ann: Ann::plain(at),
+            argument: Ident(argument),
+            body,
+        }),
+        Err(error) => Err(error),
+    }
+}
+
+/// A value that is put off.
+pub fn thunk(alloc: Global, at: Span, value: CoreExpr) -> Result<CoreExpr, NoMemory>
+    ensures { IfOk result (λ core. core ≡ spec.thunk at value) }
+{
+    match Text::new(alloc, "$u") {
+        Ok(argument) => lambda(alloc, at, argument, value),
+        Err(error) => Err(error),
     }
 }
 

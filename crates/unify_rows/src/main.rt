@@ -11,8 +11,7 @@ mod printing;
 mod script;
 
 use crate::fault::Fault;
-use crate::large::{deep, shared};
-use crate::script::run;
+use crate::script::{run, run_deep, run_shared};
 use std::alloc::Global;
 use std::{fs, io};
 
@@ -36,24 +35,41 @@ fn print_row(out: &mut String, alloc: Global, line: &str) -> Result<(), Fault> {
     print_answers(out, answers.as_str())
 }
 
+fn print_rows(out: &mut String, alloc: Global, rows: &str) -> Result<(), Fault> {
+    for line in rows.lines() {
+        print_row(out, alloc, line)?;
+    }
+    Ok(())
+}
+
+fn print_shared(out: &mut String, alloc: Global) -> Result<(), Fault> {
+    print_line(
+        out,
+        "# two towers of 60 levels, whose tops and then a bottom are equated",
+    )?;
+    let answers = run_shared(alloc)?;
+    print_answers(out, answers.as_str())
+}
+
+fn print_deep(out: &mut String, alloc: Global) -> Result<(), Fault> {
+    print_line(
+        out,
+        "# two types of 1,000 levels, and a third one of another inside",
+    )?;
+    let answers = run_deep(alloc)?;
+    print_answers(out, answers.as_str())
+}
+
+fn print_all(out: &mut String, alloc: Global, rows: &str) -> Result<(), Fault> {
+    print_rows(out, alloc, rows)?;
+    print_shared(out, alloc)?;
+    print_deep(out, alloc)
+}
+
 /// What is printed of the rows.
 fn texts(alloc: Global, rows: &str) -> Result<String, Fault> {
     let mut out = String::new(alloc);
-    for line in rows.lines() {
-        print_row(&mut out, alloc, line)?;
-    }
-    print_line(
-        &mut out,
-        "# two towers of 60 levels, whose tops and then a bottom are equated",
-    )?;
-    let towers = shared(alloc)?;
-    print_answers(&mut out, towers.as_str())?;
-    print_line(
-        &mut out,
-        "# two types of 1,000 levels, and a third one of another inside",
-    )?;
-    let levels = deep(alloc)?;
-    print_answers(&mut out, levels.as_str())?;
+    print_all(&mut out, alloc, rows)?;
     Ok(out)
 }
 

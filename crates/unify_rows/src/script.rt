@@ -7,6 +7,7 @@
 //! an unknown.
 
 use crate::fault::Fault;
+use crate::large::{deep, shared};
 use crate::notation::{arrow_kind, ident, no_notation, qualified, read_type, row_kind};
 use crate::printing::{print_type, print_word};
 use psc_items::SharedItems;
@@ -21,26 +22,41 @@ fn constructor(alloc: Global, name: &str, kind: Kind) -> Result<TypeKind, Fault>
     })
 }
 
-/// A solver with the kinds of `->`, `Array`, `Record` and `Named`. Every other constructor has the kind `Type`.
-pub fn start(alloc: Global) -> Result<Solver, Fault> {
+/// Puts a constructor that takes a type of one kind to one of another.
+fn put_kind(
+    alloc: Global,
+    kinds: &mut Vec<TypeKind>,
+    name: &str,
+    from: Kind,
+    to: Kind,
+) -> Result<(), Fault> {
+    let kind = arrow_kind(alloc, from, to)?;
+    let made = constructor(alloc, name, kind)?;
+    kinds.push(made)?;
+    Ok(())
+}
+
+/// The kinds of `->`, `Array`, `Record` and `Named`.
+fn put_kinds(alloc: Global, kinds: &mut Vec<TypeKind>) -> Result<(), Fault> {
     let unary = arrow_kind(alloc, Kind::Star, Kind::Star)?;
-    let again = arrow_kind(alloc, Kind::Star, Kind::Star)?;
-    let binary = arrow_kind(alloc, Kind::Star, again)?;
+    put_kind(alloc, kinds, "->", Kind::Star, unary)?;
+    put_kind(alloc, kinds, "Array", Kind::Star, Kind::Star)?;
     let row = row_kind(alloc, Kind::Star)?;
-    let of_row = arrow_kind(alloc, row, Kind::Star)?;
-    let of_text = arrow_kind(alloc, Kind::Sym, Kind::Star)?;
+    put_kind(alloc, kinds, "Record", row, Kind::Star)?;
+    put_kind(alloc, kinds, "Named", Kind::Sym, Kind::Star)
+}
+
+/// A solver with those kinds. Every other constructor has the kind `Type`.
+fn start(alloc: Global) -> Result<Solver, Fault> {
     let mut kinds = Vec::new(alloc);
-    kinds.push(constructor(alloc, "->", binary)?)?;
-    kinds.push(constructor(alloc, "Array", unary)?)?;
-    kinds.push(constructor(alloc, "Record", of_row)?)?;
-    kinds.push(constructor(alloc, "Named", of_text)?)?;
+    put_kinds(alloc, &mut kinds)?;
     Ok(Solver::start(alloc, kinds.as_slice())?)
 }
 
 /// A solver that a script calls, and its answers.
 #[derive(Drop)]
-struct Script {
-    alloc: Global,
+pub struct Script {
+    pub alloc: Global,
     solver: Solver,
     out: String,
 }
@@ -78,19 +94,35 @@ impl Script {
         self.print(made.0.as_str())
     }
 
-    fn fresh(&mut self, kind: Kind, names: &str) -> Result<(), Fault> {
+    /// Makes an unknown in whose value these rigid variables may stand, and gives its number.
+    pub fn new_unknown(&mut self, kind: Kind, names: &str) -> Result<u64, Fault> {
         let scope = scope_of(self.alloc, names)?;
-        self.solver.fresh(self.alloc, kind, &scope)?;
+        Ok(self.solver.fresh(self.alloc, kind, &scope)?)
+    }
+
+    fn fresh(&mut self, kind: Kind, names: &str) -> Result<(), Fault> {
+        self.new_unknown(kind, names)?;
         Ok(())
     }
 
-    fn show(&mut self, number: &str) -> Result<(), Fault> {
+    /// Prints the value of an unknown.
+    pub fn show(&mut self, number: u64) -> Result<(), Fault> {
+        let value = self.solver.value(self.alloc, number)?;
+        print_type(&mut self.out, self.alloc, &value)
+    }
+
+    fn show_written(&mut self, number: &str) -> Result<(), Fault> {
         match number.parse::<u64>() {
-            Ok(number) => {
-                let value = self.solver.value(self.alloc, number)?;
-                print_type(&mut self.out, self.alloc, &value)
-            }
+            Ok(number) => self.show(number),
             Err(_) => Err(no_notation(self.alloc, number)?),
+        }
+    }
+
+    /// Equates both types, and prints how it ended.
+    pub fn answer(&mut self, left: &Ty, right: &Ty) -> Result<(), Fault> {
+        match self.solver.equate(self.alloc, left, right)? {
+            Ok(()) => self.print("ok"),
+            Err(_) => self.print("clash"),
         }
     }
 
@@ -111,14 +143,18 @@ impl Script {
 
     fn equation(&mut self, left: &str, right: &str) -> Result<(), Fault> {
         let one = read_type(self.alloc, left)?;
-        let two = read_type(self.alloc, right)?;
-        self.equate(&one, &two)
+        match read_type(self.alloc, right) {
+            Ok(two) => self.equate(&one, &two),
+            Err(fault) => Err(fault),
+        }
     }
 
     fn try_equation(&mut self, left: &str, right: &str) -> Result<(), Fault> {
         let one = read_type(self.alloc, left)?;
-        let two = read_type(self.alloc, right)?;
-        self.try_equate(&one, &two)
+        match read_type(self.alloc, right) {
+            Ok(two) => self.try_equate(&one, &two),
+            Err(fault) => Err(fault),
+        }
     }
 
     /// Takes a step that asks for an unknown. None where the step is another one.
@@ -155,7 +191,7 @@ impl Script {
             return self.rigid(name, Kind::Star);
         }
         if let Some(number) = step.strip_prefix("show ") {
-            return self.show(number);
+            return self.show_written(number);
         }
         match self.unknown(step)? {
             Some(()) => Ok(()),
@@ -164,15 +200,38 @@ impl Script {
     }
 }
 
-/// The answers of a script, one behind the other.
-pub fn run(alloc: Global, script: &str) -> Result<String, Fault> {
-    let mut running = Script {
+fn begin(alloc: Global) -> Result<Script, Fault> {
+    Ok(Script {
         alloc,
         solver: start(alloc)?,
         out: String::new(alloc),
-    };
+    })
+}
+
+fn run_steps(running: &mut Script, script: &str) -> Result<(), Fault> {
     for step in script.split("; ") {
         running.step(step)?;
     }
+    Ok(())
+}
+
+/// The answers of a script, one behind the other.
+pub fn run(alloc: Global, script: &str) -> Result<String, Fault> {
+    let mut running = begin(alloc)?;
+    run_steps(&mut running, script)?;
+    Ok(running.out)
+}
+
+/// The answers to equations of towers of shared nodes.
+pub fn run_shared(alloc: Global) -> Result<String, Fault> {
+    let mut running = begin(alloc)?;
+    shared(&mut running)?;
+    Ok(running.out)
+}
+
+/// The answers to equations of deep types.
+pub fn run_deep(alloc: Global) -> Result<String, Fault> {
+    let mut running = begin(alloc)?;
+    deep(&mut running)?;
     Ok(running.out)
 }
