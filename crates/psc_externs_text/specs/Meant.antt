@@ -18,7 +18,7 @@ pub record Header : Type 0 where
 -- the imports without `Prim`, ascending and each once
 pub record AreImports (written : List (List ℕ)) (imports : List (List ℕ)) : Type 0 where
   pub ascending : IsStrictlySortedBy (slice_cmp nat_cmp) imports
-  pub same : (m : List ℕ) → Contains m imports ↔ (Contains m written × (m ≢ codes "Prim"))
+  pub same : (m : List ℕ) → Contains imports m ↔ (Contains written m × (m ≢ codes "Prim"))
 
 -- the texts tell the module that the header of the source names, with its imports
 pub record TellsSource (head : Option Header) (source : List ℕ) (out : Outputs) : Type 0 where
