@@ -1,5 +1,8 @@
 //! Declarations: what they mention, and which of them need themselves.
 
+ghost use Rattle.std.specs.Prelude.{◌≡◌, [], ◌∷◌, IsNone, IfSome, IfOk, OnOk, option_map, slice_get, unwrap_or, false};
+ghost use Rattle.psc_cycles.specs.First as spec;
+
 use crate::binds::clause;
 use crate::scope::{Found, Links, Walk, bare_cycles, is_before, reach_themselves};
 use crate::tables::Tables;
@@ -100,7 +103,11 @@ struct First {
 }
 
 impl First {
-    fn offer(&mut self, code: Code, name: &Text, span: Span) -> Result<(), NoMemory> {
+    fn offer(&mut self, code: Code, name: &Text, span: Span) -> Result<(), NoMemory>
+        ensures first { IsNone self.old.found → OnOk result (self.new.found ≡ Some (spec.offered code name.now span)) }
+        ensures earlier { IfSome self.old.found (λ one. spec.IsBefore span one.1.span → OnOk result (self.new.found ≡ Some (spec.offered code name.now span))) }
+        ensures later { IfSome self.old.found (λ one. (spec.IsBefore span one.1.span → ⊥) → OnOk result (self.new ≡ self.old)) }
+    {
         let is_first = match &self.found {
             Some((_, found)) => is_before(span, found.span),
             None => true,
@@ -112,7 +119,11 @@ impl First {
         Ok(())
     }
 
-    fn into_error(self, alloc: Global, module: &Module) -> Result<Option<PsError>, NoMemory> {
+    fn into_error(self, alloc: Global, module: &Module) -> Result<Option<PsError>, NoMemory>
+        ensures code { IfOk result (λ told. option_map (λ error. error.code) told ≡ option_map (λ one. one.0) self.found) }
+        ensures place { IfOk result (λ told. option_map (λ error. error.span) told ≡ option_map (λ one. one.1.span) self.found) }
+        ensures parts { IfOk result (λ told. option_map (λ error. error.parts) told ≡ option_map (λ one. one.1.name ∷ []) self.found) }
+    {
         let First { found } = self;
         let Some((code, Found { name, span })) = found else {
             return Ok(None);
@@ -128,7 +139,9 @@ impl First {
     }
 }
 
-fn is_set(flags: &[bool], place: usize) -> bool {
+fn is_set(flags: &[bool], place: usize) -> bool
+    ensures { result ≡ unwrap_or (slice_get flags.now place) false }
+{
     flags.get(place).copied().unwrap_or(false)
 }
 

@@ -3,7 +3,8 @@
 //! Each block of bindings has numbers for its members. A mention of a member inside a member is one of the block's mentions,
 //! and it is bare where no lambda stands between the member and it.
 
-ghost use Rattle.std.specs.Prelude.{◌≡◌, ◌<◌, ◌↔◌, ◌⊎◌, IsTrue};
+ghost use Rattle.std.specs.Prelude.{◌≡◌, ◌↔◌, IsTrue, IsNone, IfSome, OnOk};
+ghost use Rattle.psc_cycles.specs.First as spec;
 
 use crate::tables::Tables;
 use psc_ast::{LabelAt, Mention};
@@ -76,7 +77,7 @@ pub(crate) struct Walk {
 
 /// Whether a place begins before another.
 pub(crate) fn is_before(one: Span, other: Span) -> bool
-    ensures { IsTrue result ↔ ((one.line < other.line) ⊎ ((one.line ≡ other.line) × (one.column < other.column))) }
+    ensures { IsTrue result ↔ spec.IsBefore one other }
 {
     if one.line < other.line {
         return true;
@@ -323,7 +324,11 @@ impl Walk {
     }
 
     /// Keeps a binding that needs itself, if it is the first.
-    fn find(&mut self, member: &Found) -> Result<(), NoMemory> {
+    fn find(&mut self, member: &Found) -> Result<(), NoMemory>
+        ensures first { IsNone self.old.found → OnOk result (self.new.found ≡ Some member.now) }
+        ensures earlier { IfSome self.old.found (λ found. spec.IsBefore member.now.span found.span → OnOk result (self.new.found ≡ Some member.now)) }
+        ensures later { IfSome self.old.found (λ found. (spec.IsBefore member.now.span found.span → ⊥) → OnOk result (self.new.found ≡ self.old.found)) }
+    {
         let is_first = match &self.found {
             Some(found) => is_before(member.span, found.span),
             None => true,

@@ -1,5 +1,9 @@
 //! The own declarations of a module by their names.
 
+ghost use Rattle.std.specs.Prelude.{◌≡◌, ◌↔◌, IsTrue, IsSome, OnOk};
+ghost use Rattle.std.specs.Option.{option_copied};
+ghost use Rattle.psc_cycles.specs.Tables as spec;
+
 use psc_ast::{Decl, Mention, Module};
 use psc_text::{ModuleName, NoMemory, Text};
 use std::alloc::Global;
@@ -15,7 +19,9 @@ pub(crate) struct Tables {
 }
 
 /// The name of a type, a synonym or a class that a declaration makes.
-pub(crate) fn type_name(decl: &Decl) -> Option<&Text> {
+pub(crate) fn type_name(decl: &Decl) -> Option<&Text>
+    ensures { option_copied result ≡ spec.type_name decl.now }
+{
     match decl {
         Decl::XData(data) | Decl::Newtype(data) => Some(&data.name.name),
         Decl::Synonym(synonym) => Some(&synonym.name.name),
@@ -31,7 +37,9 @@ pub(crate) fn type_name(decl: &Decl) -> Option<&Text> {
 }
 
 /// The name of the value that a clause is of.
-pub(crate) fn value_name(decl: &Decl) -> Option<&Text> {
+pub(crate) fn value_name(decl: &Decl) -> Option<&Text>
+    ensures { option_copied result ≡ spec.value_name decl.now }
+{
     match decl {
         Decl::Clause(clause) => Some(&clause.name.name.0),
         Decl::XData(_)
@@ -69,7 +77,9 @@ impl Tables {
     }
 
     /// Whether a mention may be of an own declaration: it has the own module, or none.
-    fn is_own(&self, mention: &Mention) -> bool {
+    fn is_own(&self, mention: &Mention) -> bool
+        ensures { IsTrue result ↔ spec.IsOwn self.now mention.now }
+    {
         match &mention.name.module {
             Some(module) => module.same(&self.module),
             None => true,
@@ -77,7 +87,10 @@ impl Tables {
     }
 
     /// The own type, synonym or class that a mention is of.
-    pub(crate) fn type_of(&self, mention: &Mention) -> Option<u32> {
+    pub(crate) fn type_of(&self, mention: &Mention) -> Option<u32>
+        ensures own { spec.IsOwn self.now mention.now → result ≡ spec.found self.now.types mention.now.name.name }
+        ensures other { (spec.IsOwn self.now mention.now → ⊥) → result ≡ None }
+    {
         if self.is_own(mention) {
             self.types.get(&mention.name.name).copied()
         } else {
@@ -86,7 +99,10 @@ impl Tables {
     }
 
     /// The own value that a mention is of, where no local name is meant.
-    pub(crate) fn value_of(&self, mention: &Mention) -> Option<u32> {
+    pub(crate) fn value_of(&self, mention: &Mention) -> Option<u32>
+        ensures own { spec.IsOwn self.now mention.now → result ≡ spec.found self.now.values mention.now.name.name }
+        ensures other { (spec.IsOwn self.now mention.now → ⊥) → result ≡ None }
+    {
         if self.is_own(mention) {
             self.named(&mention.name.name)
         } else {
@@ -95,13 +111,18 @@ impl Tables {
     }
 
     /// The own value of a name.
-    pub(crate) fn named(&self, name: &Text) -> Option<u32> {
+    pub(crate) fn named(&self, name: &Text) -> Option<u32>
+        ensures { result ≡ spec.found self.now.values name.now }
+    {
         self.values.get(name).copied()
     }
 }
 
 /// Keeps the first declaration of a name.
-fn note(table: &mut BTreeMap<Text, u32>, name: &Text, number: u32) -> Result<(), NoMemory> {
+fn note(table: &mut BTreeMap<Text, u32>, name: &Text, number: u32) -> Result<(), NoMemory>
+    ensures new { spec.found table.old name.now ≡ None → OnOk result (spec.found table.new name.now ≡ Some number) }
+    ensures known { IsSome (spec.found table.old name.now) → OnOk result (table.new ≡ table.old) }
+{
     if table.get(name).is_none() {
         let _before = table.insert(name.clone()?, number)?;
     }

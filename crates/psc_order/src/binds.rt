@@ -1,13 +1,17 @@
 //! Right sides, alternatives, local bindings and statements without chains.
+//!
+//! Each function has one step that may fail, so that its proof has few values to drop.
 
 use crate::binders::{binder, binder_list};
 use crate::exprs::{boxed, expr};
 use crate::state::{Bracketing, FUEL, in_order};
 use crate::types::sig;
-use psc_ast::{Alt, Bind, Branch, Clause, Guard, Locals, Rhs, Stmt, Test};
+use psc_ast::{
+    Alt, Bind, BinderTree, Branch, Clause, ExprTree, Guard, IdentAt, Locals, Rhs, Stmt, Test,
+};
 use psc_chain::{Size, levels};
-use psc_text::NoMemory;
-use sqlite_items::Items;
+use psc_text::{NoMemory, Span};
+use sqlite_items::{Boxed, Items};
 
 #[cycle(exprs)]
 pub(crate) fn alternatives(
@@ -16,17 +20,59 @@ pub(crate) fn alternatives(
     fuel: u32,
     size: &mut Size,
 ) -> Result<Items<Alt>, NoMemory> {
+    let list = in_order(state.alloc, list)?;
     let mut done = Items::new(state.alloc);
     let mut all = Size::NONE;
-    for Alt { binders, rhs, span } in in_order(state.alloc, list)? {
+    for next in list {
         let mut inside = Size::NONE;
-        let binders = binder_list(state, binders, &mut inside)?;
-        let rhs = right_side(state, rhs, fuel, &mut inside)?;
-        done.push(Alt { binders, rhs, span })?;
+        add_alternative(state, next, fuel, &mut done, &mut inside)?;
         all = all.beside(inside);
     }
     *size = size.then(all.enclosed());
     Ok(done)
+}
+
+#[cycle(exprs)]
+fn add_alternative(
+    state: &mut Bracketing,
+    next: Alt,
+    fuel: u32,
+    done: &mut Items<Alt>,
+    size: &mut Size,
+) -> Result<(), NoMemory> {
+    let next = alternative(state, next, fuel, size)?;
+    done.push(next)?;
+    Ok(())
+}
+
+#[cycle(exprs)]
+fn alternative(
+    state: &mut Bracketing,
+    next: Alt,
+    fuel: u32,
+    size: &mut Size,
+) -> Result<Alt, NoMemory> {
+    let Alt { binders, rhs, span } = next;
+    match binder_list(state, binders, size) {
+        Ok(binders) => alternative_behind(state, binders, rhs, span, fuel, size),
+        Err(error) => Err(error),
+    }
+}
+
+/// An alternative whose binders are done.
+#[cycle(exprs)]
+fn alternative_behind(
+    state: &mut Bracketing,
+    binders: Items<BinderTree>,
+    rhs: Rhs,
+    span: Span,
+    fuel: u32,
+    size: &mut Size,
+) -> Result<Alt, NoMemory> {
+    match right_side(state, rhs, fuel, size) {
+        Ok(rhs) => Ok(Alt { binders, rhs, span }),
+        Err(error) => Err(error),
+    }
 }
 
 #[cycle(exprs)]
@@ -38,23 +84,73 @@ pub(crate) fn right_side(
 ) -> Result<Rhs, NoMemory> {
     match rhs {
         Rhs::Plain(branch) => Ok(Rhs::Plain(branch_of(state, branch, fuel, size)?)),
-        Rhs::Guarded(guards) => {
-            let mut done = Items::new(state.alloc);
-            for Guard {
-                tests,
-                branch,
-                span,
-            } in in_order(state.alloc, guards)? {
-                let tests = test_list(state, tests, fuel, size)?;
-                let branch = branch_of(state, branch, fuel, size)?;
-                done.push(Guard {
-                    tests,
-                    branch,
-                    span,
-                })?;
-            }
-            Ok(Rhs::Guarded(done))
-        }
+        Rhs::Guarded(guards) => Ok(Rhs::Guarded(guard_list(state, guards, fuel, size)?)),
+    }
+}
+
+#[cycle(exprs)]
+fn guard_list(
+    state: &mut Bracketing,
+    guards: Items<Guard>,
+    fuel: u32,
+    size: &mut Size,
+) -> Result<Items<Guard>, NoMemory> {
+    let guards = in_order(state.alloc, guards)?;
+    let mut done = Items::new(state.alloc);
+    for next in guards {
+        add_guard(state, next, fuel, &mut done, size)?;
+    }
+    Ok(done)
+}
+
+#[cycle(exprs)]
+fn add_guard(
+    state: &mut Bracketing,
+    next: Guard,
+    fuel: u32,
+    done: &mut Items<Guard>,
+    size: &mut Size,
+) -> Result<(), NoMemory> {
+    let next = guard(state, next, fuel, size)?;
+    done.push(next)?;
+    Ok(())
+}
+
+#[cycle(exprs)]
+fn guard(
+    state: &mut Bracketing,
+    next: Guard,
+    fuel: u32,
+    size: &mut Size,
+) -> Result<Guard, NoMemory> {
+    let Guard {
+        tests,
+        branch,
+        span,
+    } = next;
+    match test_list(state, tests, fuel, size) {
+        Ok(tests) => guarded(state, tests, branch, span, fuel, size),
+        Err(error) => Err(error),
+    }
+}
+
+/// A guard whose tests are done.
+#[cycle(exprs)]
+fn guarded(
+    state: &mut Bracketing,
+    tests: Items<Test>,
+    branch: Branch,
+    span: Span,
+    fuel: u32,
+    size: &mut Size,
+) -> Result<Guard, NoMemory> {
+    match branch_of(state, branch, fuel, size) {
+        Ok(branch) => Ok(Guard {
+            tests,
+            branch,
+            span,
+        }),
+        Err(error) => Err(error),
     }
 }
 
@@ -65,11 +161,25 @@ fn test_list(
     fuel: u32,
     size: &mut Size,
 ) -> Result<Items<Test>, NoMemory> {
+    let tests = in_order(state.alloc, tests)?;
     let mut done = Items::new(state.alloc);
-    for test in in_order(state.alloc, tests)? {
-        done.push(test_of(state, test, fuel, size)?)?;
+    for next in tests {
+        add_test(state, next, fuel, &mut done, size)?;
     }
     Ok(done)
+}
+
+#[cycle(exprs)]
+fn add_test(
+    state: &mut Bracketing,
+    next: Test,
+    fuel: u32,
+    done: &mut Items<Test>,
+    size: &mut Size,
+) -> Result<(), NoMemory> {
+    let next = test_of(state, next, fuel, size)?;
+    done.push(next)?;
+    Ok(())
 }
 
 #[cycle(exprs)]
@@ -80,22 +190,50 @@ fn test_of(
     size: &mut Size,
 ) -> Result<Test, NoMemory> {
     match test {
-        Test::Holds { value } => Ok(Test::Holds {
-            value: expr(state, value, fuel, size)?,
-        }),
+        Test::Holds { value } => match expr(state, value, fuel, size) {
+            Ok(value) => Ok(Test::Holds { value }),
+            Err(error) => Err(error),
+        },
         Test::Binds {
             binder: bound,
             value,
             span,
-        } => {
-            let binder = binder(state, bound, FUEL, size)?;
-            let value = expr(state, value, fuel, size)?;
-            Ok(Test::Binds {
-                binder,
-                value,
-                span,
-            })
-        }
+        } => test_binds(state, bound, value, span, fuel, size),
+    }
+}
+
+#[cycle(exprs)]
+fn test_binds(
+    state: &mut Bracketing,
+    bound: BinderTree,
+    value: ExprTree,
+    span: Span,
+    fuel: u32,
+    size: &mut Size,
+) -> Result<Test, NoMemory> {
+    match binder(state, bound, FUEL, size) {
+        Ok(bound) => test_value(state, bound, value, span, fuel, size),
+        Err(error) => Err(error),
+    }
+}
+
+/// A test whose binder is done.
+#[cycle(exprs)]
+fn test_value(
+    state: &mut Bracketing,
+    bound: BinderTree,
+    value: ExprTree,
+    span: Span,
+    fuel: u32,
+    size: &mut Size,
+) -> Result<Test, NoMemory> {
+    match expr(state, value, fuel, size) {
+        Ok(value) => Ok(Test::Binds {
+            binder: bound,
+            value,
+            span,
+        }),
+        Err(error) => Err(error),
     }
 }
 
@@ -107,15 +245,41 @@ fn branch_of(
     size: &mut Size,
 ) -> Result<Branch, NoMemory> {
     let Branch { body, locals } = branch;
-    let body = boxed(state, body, fuel, size)?;
-    let locals = match locals {
-        Some(Locals { binds, span }) => Some(Locals {
-            binds: bind_list(state, binds, fuel, size)?,
-            span,
-        }),
-        None => None,
-    };
-    Ok(Branch { body, locals })
+    match boxed(state, body, fuel, size) {
+        Ok(body) => branch_behind(state, body, locals, fuel, size),
+        Err(error) => Err(error),
+    }
+}
+
+/// A branch whose expression is done.
+#[cycle(exprs)]
+fn branch_behind(
+    state: &mut Bracketing,
+    body: Boxed<ExprTree>,
+    locals: Option<Locals>,
+    fuel: u32,
+    size: &mut Size,
+) -> Result<Branch, NoMemory> {
+    match locals_of(state, locals, fuel, size) {
+        Ok(locals) => Ok(Branch { body, locals }),
+        Err(error) => Err(error),
+    }
+}
+
+#[cycle(exprs)]
+fn locals_of(
+    state: &mut Bracketing,
+    locals: Option<Locals>,
+    fuel: u32,
+    size: &mut Size,
+) -> Result<Option<Locals>, NoMemory> {
+    match locals {
+        Some(Locals { binds, span }) => match bind_list(state, binds, fuel, size) {
+            Ok(binds) => Ok(Some(Locals { binds, span })),
+            Err(error) => Err(error),
+        },
+        None => Ok(None),
+    }
 }
 
 /// The bindings of a block.
@@ -130,16 +294,39 @@ pub(crate) fn bind_list(
         state.too_deep = true;
         return Ok(binds);
     }
-    let fuel = fuel - 1;
+    bindings(state, binds, fuel - 1, size)
+}
+
+#[cycle(exprs)]
+fn bindings(
+    state: &mut Bracketing,
+    binds: Items<Bind>,
+    fuel: u32,
+    size: &mut Size,
+) -> Result<Items<Bind>, NoMemory> {
+    let binds = in_order(state.alloc, binds)?;
     let mut done = Items::new(state.alloc);
     let mut all = Size::NONE;
-    for bind in in_order(state.alloc, binds)? {
+    for next in binds {
         let mut inside = Size::NONE;
-        done.push(bind_of(state, bind, fuel, &mut inside)?)?;
+        add_bind(state, next, fuel, &mut done, &mut inside)?;
         all = all.beside(inside);
     }
     *size = size.then(all.enclosed());
     Ok(done)
+}
+
+#[cycle(exprs)]
+fn add_bind(
+    state: &mut Bracketing,
+    next: Bind,
+    fuel: u32,
+    done: &mut Items<Bind>,
+    size: &mut Size,
+) -> Result<(), NoMemory> {
+    let next = bind_of(state, next, fuel, size)?;
+    done.push(next)?;
+    Ok(())
 }
 
 #[cycle(exprs)]
@@ -156,11 +343,42 @@ fn bind_of(
             binder: bound,
             rhs,
             span,
-        } => {
-            let binder = binder(state, bound, FUEL, size)?;
-            let rhs = right_side(state, rhs, fuel, size)?;
-            Ok(Bind::Value { binder, rhs, span })
-        }
+        } => bind_value(state, bound, rhs, span, fuel, size),
+    }
+}
+
+#[cycle(exprs)]
+fn bind_value(
+    state: &mut Bracketing,
+    bound: BinderTree,
+    rhs: Rhs,
+    span: Span,
+    fuel: u32,
+    size: &mut Size,
+) -> Result<Bind, NoMemory> {
+    match binder(state, bound, FUEL, size) {
+        Ok(bound) => bind_behind(state, bound, rhs, span, fuel, size),
+        Err(error) => Err(error),
+    }
+}
+
+/// A binding whose binder is done.
+#[cycle(exprs)]
+fn bind_behind(
+    state: &mut Bracketing,
+    bound: BinderTree,
+    rhs: Rhs,
+    span: Span,
+    fuel: u32,
+    size: &mut Size,
+) -> Result<Bind, NoMemory> {
+    match right_side(state, rhs, fuel, size) {
+        Ok(rhs) => Ok(Bind::Value {
+            binder: bound,
+            rhs,
+            span,
+        }),
+        Err(error) => Err(error),
     }
 }
 
@@ -178,14 +396,32 @@ pub(crate) fn clause(
         rhs,
         span,
     } = one;
-    let arguments = binder_list(state, arguments, size)?;
-    let rhs = right_side(state, rhs, fuel, size)?;
-    Ok(Clause {
-        name,
-        arguments,
-        rhs,
-        span,
-    })
+    match binder_list(state, arguments, size) {
+        Ok(arguments) => clause_behind(state, name, arguments, rhs, span, fuel, size),
+        Err(error) => Err(error),
+    }
+}
+
+/// A clause whose arguments are done.
+#[cycle(exprs)]
+fn clause_behind(
+    state: &mut Bracketing,
+    name: IdentAt,
+    arguments: Items<BinderTree>,
+    rhs: Rhs,
+    span: Span,
+    fuel: u32,
+    size: &mut Size,
+) -> Result<Clause, NoMemory> {
+    match right_side(state, rhs, fuel, size) {
+        Ok(rhs) => Ok(Clause {
+            name,
+            arguments,
+            rhs,
+            span,
+        }),
+        Err(error) => Err(error),
+    }
 }
 
 /// The statements of a block, each under as many levels more as there are up to it.
@@ -196,15 +432,29 @@ pub(crate) fn statements(
     fuel: u32,
     size: &mut Size,
 ) -> Result<Items<Stmt>, NoMemory> {
+    let list = in_order(state.alloc, list)?;
     let mut done = Items::new(state.alloc);
     let mut all = Size::NONE;
-    for next in in_order(state.alloc, list)? {
+    for next in list {
         let mut inside = Size::NONE;
-        done.push(statement(state, next, fuel, &mut inside)?)?;
+        add_statement(state, next, fuel, &mut done, &mut inside)?;
         all = all.beside(inside.under(levels(done.len())));
     }
     *size = size.then(all.enclosed());
     Ok(done)
+}
+
+#[cycle(exprs)]
+fn add_statement(
+    state: &mut Bracketing,
+    next: Stmt,
+    fuel: u32,
+    done: &mut Items<Stmt>,
+    size: &mut Size,
+) -> Result<(), NoMemory> {
+    let next = statement(state, next, fuel, size)?;
+    done.push(next)?;
+    Ok(())
 }
 
 #[cycle(exprs)]
@@ -219,22 +469,52 @@ fn statement(
             binder: bound,
             value,
             span,
-        } => {
-            let binder = binder(state, bound, FUEL, size)?;
-            let value = expr(state, value, fuel, size)?;
-            Ok(Stmt::Binds {
-                binder,
-                value,
-                span,
-            })
-        }
+        } => statement_binds(state, bound, value, span, fuel, size),
         Stmt::Let { binds, span } => {
             *size = size.then(Size::KEYWORD);
-            let binds = bind_list(state, binds, fuel, size)?;
-            Ok(Stmt::Let { binds, span })
+            match bind_list(state, binds, fuel, size) {
+                Ok(binds) => Ok(Stmt::Let { binds, span }),
+                Err(error) => Err(error),
+            }
         }
-        Stmt::Run { value } => Ok(Stmt::Run {
-            value: expr(state, value, fuel, size)?,
+        Stmt::Run { value } => match expr(state, value, fuel, size) {
+            Ok(value) => Ok(Stmt::Run { value }),
+            Err(error) => Err(error),
+        },
+    }
+}
+
+#[cycle(exprs)]
+fn statement_binds(
+    state: &mut Bracketing,
+    bound: BinderTree,
+    value: ExprTree,
+    span: Span,
+    fuel: u32,
+    size: &mut Size,
+) -> Result<Stmt, NoMemory> {
+    match binder(state, bound, FUEL, size) {
+        Ok(bound) => statement_value(state, bound, value, span, fuel, size),
+        Err(error) => Err(error),
+    }
+}
+
+/// A statement whose binder is done.
+#[cycle(exprs)]
+fn statement_value(
+    state: &mut Bracketing,
+    bound: BinderTree,
+    value: ExprTree,
+    span: Span,
+    fuel: u32,
+    size: &mut Size,
+) -> Result<Stmt, NoMemory> {
+    match expr(state, value, fuel, size) {
+        Ok(value) => Ok(Stmt::Binds {
+            binder: bound,
+            value,
+            span,
         }),
+        Err(error) => Err(error),
     }
 }

@@ -1,13 +1,16 @@
 //! Expressions without chains.
+//!
+//! Each function has one step that may fail, so that its proof has few values to drop.
 
-use crate::binders::binder_list;
-use crate::binds::{alternatives, bind_list, statements};
-use crate::state::{Bracketing, FUEL, Reading, Space, in_order};
+use crate::chains::{chain, ticks};
+use crate::forms::{ado_block, calling, case_of, choice, do_block, lambda, let_in};
+use crate::state::{Bracketing, FUEL, Space, in_order};
 use crate::types::x_type;
-use psc_ast::{ChainStep, ExprTree, Field, TickStep, Update};
-use psc_chain::{Size, levels};
+use psc_ast::{ExprTree, Field, LabelAt, Mention, TypeTree, Update};
+use psc_chain::Size;
 use psc_text::{NoMemory, Span};
 use sqlite_items::{Boxed, Items};
+use std::alloc::Global;
 
 /// An expression with its chains as trees.
 #[cycle(exprs)]
@@ -21,25 +24,25 @@ pub(crate) fn expr(
         state.too_deep = true;
         return Ok(tree);
     }
-    let fuel = fuel - 1;
     match tree {
-        ExprTree::Chain { first, rest, span } => chain(state, first, rest, span, fuel, size),
-        ExprTree::Ticks { first, rest, span } => ticks(state, first, rest, span, fuel, size),
-        ExprTree::Operation { .. }
+        ExprTree::Chain { .. }
+        | ExprTree::Ticks { .. }
+        | ExprTree::Operation { .. }
         | ExprTree::Typed { .. }
         | ExprTree::Negate { .. }
-        | ExprTree::Call { .. } => { applied(state, tree, fuel, size) }
-        ExprTree::Lambda { .. } | ExprTree::If { .. } => form(state, tree, fuel, size),
-        ExprTree::Case { .. } | ExprTree::Let { .. } | ExprTree::Do { .. } | ExprTree::Ado { .. } =>
-            { block(state, tree, fuel, size) }
-        ExprTree::Access { .. } | ExprTree::Update { .. } | ExprTree::Paren { .. } => part(
-            state, tree, fuel, size,
-        ),
-        ExprTree::Array { items, span } => {
-            let items = beside(state, items, fuel, size)?;
-            Ok(ExprTree::Array { items, span })
-        }
-        ExprTree::XRecord { fields, span } => record(state, fields, span, fuel, size),
+        | ExprTree::Call { .. } => applied(state, tree, fuel - 1, size),
+        ExprTree::Lambda { .. }
+        | ExprTree::If { .. }
+        | ExprTree::Case { .. }
+        | ExprTree::Let { .. }
+        | ExprTree::Do { .. }
+        | ExprTree::Ado { .. } => form(state, tree, fuel - 1, size),
+        ExprTree::Access { .. }
+        | ExprTree::Update { .. }
+        | ExprTree::Paren { .. }
+        | ExprTree::Array { .. }
+        | ExprTree::XRecord { .. } => part(state, tree, fuel - 1, size),
+        ExprTree::Operator { name, span } => operator(state, &name, span, size),
         ExprTree::Integer { .. }
         | ExprTree::Str { .. }
         | ExprTree::Character { .. }
@@ -47,14 +50,21 @@ pub(crate) fn expr(
         | ExprTree::Variable { .. }
         | ExprTree::Constructor { .. }
         | ExprTree::Hole { .. } => Ok(tree),
-        ExprTree::Operator { name, span } => {
-            if name.span != span {
-                *size = size.then(Size::NONE.enclosed());
-            }
-            let name = state.target(&name, Space::Values)?;
-            Ok(ExprTree::Operator { name, span })
-        }
     }
+}
+
+/// An operator in parentheses, which count as a level where they are not those of the name's own place.
+fn operator(
+    state: &Bracketing,
+    name: &Mention,
+    span: Span,
+    size: &mut Size,
+) -> Result<ExprTree, NoMemory> {
+    if name.span != span {
+        *size = size.then(Size::NONE.enclosed());
+    }
+    let name = state.target(name, Space::Values)?;
+    Ok(ExprTree::Operator { name, span })
 }
 
 #[cycle(exprs)]
@@ -69,101 +79,21 @@ pub(crate) fn boxed(
     Ok(Boxed::new(alloc, tree)?)
 }
 
-/// The arguments of a call, each under as many levels more as there are up to it, where the call is a written one.
+/// Adds an expression to a list.
 #[cycle(exprs)]
-fn arguments_of(
+pub(crate) fn add_expr(
     state: &mut Bracketing,
-    list: Items<ExprTree>,
-    written: bool,
+    next: ExprTree,
     fuel: u32,
+    done: &mut Items<ExprTree>,
     size: &mut Size,
-) -> Result<Items<ExprTree>, NoMemory> {
-    let mut done = Items::new(state.alloc);
-    for next in in_order(state.alloc, list)? {
-        let mut inside = Size::NONE;
-        let next = expr(state, next, fuel, &mut inside)?;
-        done.push(next)?;
-        *size = size.then(inside.under(if written { levels(done.len()) } else { 0 }));
-    }
-    Ok(done)
+) -> Result<(), NoMemory> {
+    let next = expr(state, next, fuel, size)?;
+    done.push(next)?;
+    Ok(())
 }
 
-/// Whether a place ends before another. So a call's function does, but for one that a statement calls unwritten: that has the
-/// place of the whole form.
-fn ends_before(one: Span, other: Span) -> bool {
-    one.end_line < other.end_line
-        || (one.end_line == other.end_line && one.end_column < other.end_column)
-}
-
-/// Expressions in brackets with commas between them.
-#[cycle(exprs)]
-fn beside(
-    state: &mut Bracketing,
-    list: Items<ExprTree>,
-    fuel: u32,
-    size: &mut Size,
-) -> Result<Items<ExprTree>, NoMemory> {
-    let mut done = Items::new(state.alloc);
-    let mut all = Size::NONE;
-    for next in in_order(state.alloc, list)? {
-        let mut inside = Size::NONE;
-        let next = expr(state, next, fuel, &mut inside)?;
-        done.push(next)?;
-        all = all.beside(inside);
-    }
-    *size = size.then(all.enclosed());
-    Ok(done)
-}
-
-#[cycle(exprs)]
-fn chain(
-    state: &mut Bracketing,
-    first: Boxed<ExprTree>,
-    rest: Items<ChainStep>,
-    span: Span,
-    fuel: u32,
-    size: &mut Size,
-) -> Result<ExprTree, NoMemory> {
-    let mut inside = Size::NONE;
-    let first = expr(state, first.into_inner(), fuel, &mut inside)?;
-    let mut reading = Reading::start(state.alloc, first, inside);
-    for ChainStep { op, operand } in in_order(state.alloc, rest)? {
-        let mut inside = Size::NONE;
-        let operand = expr(state, operand, fuel, &mut inside)?;
-        reading.add(op, operand, inside)?;
-    }
-    state.bracketed(Space::Values, reading, span, size)
-}
-
-/// Names in backticks, each of which is an operator node. They associate to the left, so an operand lies behind those before it
-/// and under those behind it.
-#[cycle(exprs)]
-fn ticks(
-    state: &mut Bracketing,
-    first: Boxed<ExprTree>,
-    rest: Items<TickStep>,
-    span: Span,
-    fuel: u32,
-    size: &mut Size,
-) -> Result<ExprTree, NoMemory> {
-    let nodes = levels(rest.len());
-    let mut inside = Size::NONE;
-    let first = boxed(state, first, fuel, &mut inside)?;
-    *size = size.then(inside.under(nodes));
-    let mut done = Items::new(state.alloc);
-    for TickStep { name, operand } in in_order(state.alloc, rest)? {
-        let mut inside = Size::NONE;
-        let operand = expr(state, operand, fuel, &mut inside)?;
-        *size = size.then(inside.under(nodes));
-        done.push(TickStep { name, operand })?;
-    }
-    Ok(ExprTree::Ticks {
-        first,
-        rest: done,
-        span,
-    })
-}
-
+/// Expressions that are operands or arguments.
 #[cycle(exprs)]
 fn applied(
     state: &mut Bracketing,
@@ -171,43 +101,129 @@ fn applied(
     fuel: u32,
     size: &mut Size,
 ) -> Result<ExprTree, NoMemory> {
-    let alloc = state.alloc;
     match tree {
+        ExprTree::Chain { first, rest, span } => chain(state, first, rest, span, fuel, size),
+        ExprTree::Ticks { first, rest, span } => ticks(state, first, rest, span, fuel, size),
         ExprTree::Operation {
             op,
             left,
             right,
             span,
-        } => {
-            let left = boxed(state, left, fuel, size)?;
-            let right = boxed(state, right, fuel, size)?;
-            Ok(ExprTree::Operation {
-                op,
-                left,
-                right,
-                span,
-            })
-        }
+        } => operation(state, op, left, right, span, fuel, size),
         ExprTree::Typed {
             value,
             x_type: written,
             span,
-        } => {
-            let value = boxed(state, value, fuel, size)?;
-            let written = x_type(state, written.into_inner(), FUEL, size)?;
-            Ok(ExprTree::Typed {
-                value,
-                x_type: Boxed::new(alloc, written)?,
-                span,
-            })
-        }
+        } => typed(state, value, written, span, fuel, size),
         ExprTree::Negate {
             minus,
             operand,
             span,
-        } => {
-            let mut inside = Size::NONE;
-            let operand = boxed(state, operand, fuel, &mut inside)?;
+        } => negated(state, minus, operand, span, fuel, size),
+        ExprTree::Call {
+            function,
+            arguments,
+            span,
+        } => calling(state, function, arguments, span, fuel, size),
+        other => Ok(other),
+    }
+}
+
+#[cycle(exprs)]
+fn operation(
+    state: &mut Bracketing,
+    op: Mention,
+    left: Boxed<ExprTree>,
+    right: Boxed<ExprTree>,
+    span: Span,
+    fuel: u32,
+    size: &mut Size,
+) -> Result<ExprTree, NoMemory> {
+    match boxed(state, left, fuel, size) {
+        Ok(left) => right_of(state, op, left, right, span, fuel, size),
+        Err(error) => Err(error),
+    }
+}
+
+/// An operation whose left operand is done.
+#[cycle(exprs)]
+fn right_of(
+    state: &mut Bracketing,
+    op: Mention,
+    left: Boxed<ExprTree>,
+    right: Boxed<ExprTree>,
+    span: Span,
+    fuel: u32,
+    size: &mut Size,
+) -> Result<ExprTree, NoMemory> {
+    match boxed(state, right, fuel, size) {
+        Ok(right) => Ok(ExprTree::Operation {
+            op,
+            left,
+            right,
+            span,
+        }),
+        Err(error) => Err(error),
+    }
+}
+
+#[cycle(exprs)]
+fn typed(
+    state: &mut Bracketing,
+    value: Boxed<ExprTree>,
+    written: Boxed<TypeTree>,
+    span: Span,
+    fuel: u32,
+    size: &mut Size,
+) -> Result<ExprTree, NoMemory> {
+    match boxed(state, value, fuel, size) {
+        Ok(value) => of_type(state, value, written, span, size),
+        Err(error) => Err(error),
+    }
+}
+
+/// An expression with a type, itself done.
+fn of_type(
+    state: &mut Bracketing,
+    value: Boxed<ExprTree>,
+    written: Boxed<TypeTree>,
+    span: Span,
+    size: &mut Size,
+) -> Result<ExprTree, NoMemory> {
+    match x_type(state, written.into_inner(), FUEL, size) {
+        Ok(written) => with_type(state.alloc, value, written, span),
+        Err(error) => Err(error),
+    }
+}
+
+fn with_type(
+    alloc: Global,
+    value: Boxed<ExprTree>,
+    written: TypeTree,
+    span: Span,
+) -> Result<ExprTree, NoMemory> {
+    match Boxed::new(alloc, written) {
+        Ok(written) => Ok(ExprTree::Typed {
+            value,
+            x_type: written,
+            span,
+        }),
+        Err(_) => Err(NoMemory),
+    }
+}
+
+#[cycle(exprs)]
+fn negated(
+    state: &mut Bracketing,
+    minus: Span,
+    operand: Boxed<ExprTree>,
+    span: Span,
+    fuel: u32,
+    size: &mut Size,
+) -> Result<ExprTree, NoMemory> {
+    let mut inside = Size::NONE;
+    match boxed(state, operand, fuel, &mut inside) {
+        Ok(operand) => {
             *size = size.then(inside.under(1));
             Ok(ExprTree::Negate {
                 minus,
@@ -215,24 +231,11 @@ fn applied(
                 span,
             })
         }
-        ExprTree::Call {
-            function,
-            arguments,
-            span,
-        } => {
-            let written = ends_before(function.get().span(), span);
-            let function = boxed(state, function, fuel, size)?;
-            let arguments = arguments_of(state, arguments, written, fuel, size)?;
-            Ok(ExprTree::Call {
-                function,
-                arguments,
-                span,
-            })
-        }
-        other => Ok(other),
+        Err(error) => Err(error),
     }
 }
 
+/// Expressions that begin with a keyword or a backslash.
 #[cycle(exprs)]
 fn form(
     state: &mut Bracketing,
@@ -240,102 +243,38 @@ fn form(
     fuel: u32,
     size: &mut Size,
 ) -> Result<ExprTree, NoMemory> {
-    *size = size.then(Size::KEYWORD);
     match tree {
         ExprTree::Lambda {
             binders,
             body,
             span,
-        } => {
-            let binders = binder_list(state, binders, size)?;
-            let body = boxed(state, body, fuel, size)?;
-            Ok(ExprTree::Lambda {
-                binders,
-                body,
-                span,
-            })
-        }
+        } => lambda(state, binders, body, span, fuel, size),
         ExprTree::If {
             test,
             then,
             otherwise,
             span,
-        } => {
-            let test = boxed(state, test, fuel, size)?;
-            let then = boxed(state, then, fuel, size)?;
-            let otherwise = boxed(state, otherwise, fuel, size)?;
-            Ok(ExprTree::If {
-                test,
-                then,
-                otherwise,
-                span,
-            })
-        }
-        other => Ok(other),
-    }
-}
-
-#[cycle(exprs)]
-fn block(
-    state: &mut Bracketing,
-    tree: ExprTree,
-    fuel: u32,
-    size: &mut Size,
-) -> Result<ExprTree, NoMemory> {
-    match tree {
+        } => choice(state, test, then, otherwise, span, fuel, size),
         ExprTree::Case {
             scrutinees,
             alternatives: list,
             span,
-        } => {
-            *size = size.then(Size::KEYWORD);
-            let mut done = Items::new(state.alloc);
-            for next in in_order(state.alloc, scrutinees)? {
-                done.push(expr(state, next, fuel, size)?)?;
-            }
-            let list = alternatives(state, list, fuel, size)?;
-            Ok(ExprTree::Case {
-                scrutinees: done,
-                alternatives: list,
-                span,
-            })
-        }
-        ExprTree::Let { binds, body, span } => {
-            *size = size.then(Size::KEYWORD);
-            let binds = bind_list(state, binds, fuel, size)?;
-            let body = boxed(state, body, fuel, size)?;
-            Ok(ExprTree::Let { binds, body, span })
-        }
+        } => case_of(state, scrutinees, list, span, fuel, size),
+        ExprTree::Let { binds, body, span } => let_in(state, binds, body, span, fuel, size),
         ExprTree::Do {
             statements: list,
             span,
-        } => {
-            let list = statements(state, list, fuel, size)?;
-            Ok(ExprTree::Do {
-                statements: list,
-                span,
-            })
-        }
+        } => do_block(state, list, span, fuel, size),
         ExprTree::Ado {
             statements: list,
             result,
             span,
-        } => {
-            let behind = levels(list.len());
-            let list = statements(state, list, fuel, size)?;
-            let mut inside = Size::NONE;
-            let result = boxed(state, result, fuel, &mut inside)?;
-            *size = size.then(inside.under(behind));
-            Ok(ExprTree::Ado {
-                statements: list,
-                result,
-                span,
-            })
-        }
+        } => ado_block(state, list, result, span, fuel, size),
         other => Ok(other),
     }
 }
 
+/// Expressions of a record or in brackets.
 #[cycle(exprs)]
 fn part(
     state: &mut Bracketing,
@@ -348,34 +287,70 @@ fn part(
             subject,
             labels,
             span,
-        } => {
-            let subject = boxed(state, subject, fuel, size)?;
-            Ok(ExprTree::Access {
-                subject,
-                labels,
-                span,
-            })
-        }
+        } => access(state, subject, labels, span, fuel, size),
         ExprTree::Update {
             subject,
             updates,
             span,
-        } => {
-            let subject = boxed(state, subject, fuel, size)?;
-            let updates = update_list(state, updates, fuel, size)?;
-            Ok(ExprTree::Update {
-                subject,
-                updates,
-                span,
-            })
-        }
-        ExprTree::Paren { inner, span } => {
-            let mut inside = Size::NONE;
-            let inner = boxed(state, inner, fuel, &mut inside)?;
-            *size = size.then(inside.enclosed());
-            Ok(ExprTree::Paren { inner, span })
-        }
+        } => update(state, subject, updates, span, fuel, size),
+        ExprTree::Paren { inner, span } => paren(state, inner, span, fuel, size),
+        ExprTree::Array { items, span } => array(state, items, span, fuel, size),
+        ExprTree::XRecord { fields, span } => record(state, fields, span, fuel, size),
         other => Ok(other),
+    }
+}
+
+#[cycle(exprs)]
+fn access(
+    state: &mut Bracketing,
+    subject: Boxed<ExprTree>,
+    labels: Items<LabelAt>,
+    span: Span,
+    fuel: u32,
+    size: &mut Size,
+) -> Result<ExprTree, NoMemory> {
+    match boxed(state, subject, fuel, size) {
+        Ok(subject) => Ok(ExprTree::Access {
+            subject,
+            labels,
+            span,
+        }),
+        Err(error) => Err(error),
+    }
+}
+
+#[cycle(exprs)]
+fn update(
+    state: &mut Bracketing,
+    subject: Boxed<ExprTree>,
+    updates: Items<Update>,
+    span: Span,
+    fuel: u32,
+    size: &mut Size,
+) -> Result<ExprTree, NoMemory> {
+    match boxed(state, subject, fuel, size) {
+        Ok(subject) => updated(state, subject, updates, span, fuel, size),
+        Err(error) => Err(error),
+    }
+}
+
+/// An update whose subject is done.
+#[cycle(exprs)]
+fn updated(
+    state: &mut Bracketing,
+    subject: Boxed<ExprTree>,
+    updates: Items<Update>,
+    span: Span,
+    fuel: u32,
+    size: &mut Size,
+) -> Result<ExprTree, NoMemory> {
+    match update_list(state, updates, fuel, size) {
+        Ok(updates) => Ok(ExprTree::Update {
+            subject,
+            updates,
+            span,
+        }),
+        Err(error) => Err(error),
     }
 }
 
@@ -386,12 +361,91 @@ fn update_list(
     fuel: u32,
     size: &mut Size,
 ) -> Result<Items<Update>, NoMemory> {
+    let updates = in_order(state.alloc, updates)?;
     let mut done = Items::new(state.alloc);
     let mut all = Size::NONE;
-    for Update { label, value } in in_order(state.alloc, updates)? {
+    for next in updates {
         let mut inside = Size::NONE;
-        let value = boxed(state, value, fuel, &mut inside)?;
-        done.push(Update { label, value })?;
+        add_update(state, next, fuel, &mut done, &mut inside)?;
+        all = all.beside(inside);
+    }
+    *size = size.then(all.enclosed());
+    Ok(done)
+}
+
+#[cycle(exprs)]
+fn add_update(
+    state: &mut Bracketing,
+    next: Update,
+    fuel: u32,
+    done: &mut Items<Update>,
+    size: &mut Size,
+) -> Result<(), NoMemory> {
+    let next = update_of(state, next, fuel, size)?;
+    done.push(next)?;
+    Ok(())
+}
+
+#[cycle(exprs)]
+fn update_of(
+    state: &mut Bracketing,
+    next: Update,
+    fuel: u32,
+    size: &mut Size,
+) -> Result<Update, NoMemory> {
+    let Update { label, value } = next;
+    match boxed(state, value, fuel, size) {
+        Ok(value) => Ok(Update { label, value }),
+        Err(error) => Err(error),
+    }
+}
+
+#[cycle(exprs)]
+fn paren(
+    state: &mut Bracketing,
+    inner: Boxed<ExprTree>,
+    span: Span,
+    fuel: u32,
+    size: &mut Size,
+) -> Result<ExprTree, NoMemory> {
+    let mut inside = Size::NONE;
+    match boxed(state, inner, fuel, &mut inside) {
+        Ok(inner) => {
+            *size = size.then(inside.enclosed());
+            Ok(ExprTree::Paren { inner, span })
+        }
+        Err(error) => Err(error),
+    }
+}
+
+#[cycle(exprs)]
+fn array(
+    state: &mut Bracketing,
+    items: Items<ExprTree>,
+    span: Span,
+    fuel: u32,
+    size: &mut Size,
+) -> Result<ExprTree, NoMemory> {
+    match beside(state, items, fuel, size) {
+        Ok(items) => Ok(ExprTree::Array { items, span }),
+        Err(error) => Err(error),
+    }
+}
+
+/// Expressions in brackets with commas between them.
+#[cycle(exprs)]
+fn beside(
+    state: &mut Bracketing,
+    list: Items<ExprTree>,
+    fuel: u32,
+    size: &mut Size,
+) -> Result<Items<ExprTree>, NoMemory> {
+    let list = in_order(state.alloc, list)?;
+    let mut done = Items::new(state.alloc);
+    let mut all = Size::NONE;
+    for next in list {
+        let mut inside = Size::NONE;
+        add_expr(state, next, fuel, &mut done, &mut inside)?;
         all = all.beside(inside);
     }
     *size = size.then(all.enclosed());
@@ -406,17 +460,68 @@ fn record(
     fuel: u32,
     size: &mut Size,
 ) -> Result<ExprTree, NoMemory> {
+    match field_list(state, fields, fuel, size) {
+        Ok(fields) => Ok(ExprTree::XRecord { fields, span }),
+        Err(error) => Err(error),
+    }
+}
+
+#[cycle(exprs)]
+fn field_list(
+    state: &mut Bracketing,
+    fields: Items<Field>,
+    fuel: u32,
+    size: &mut Size,
+) -> Result<Items<Field>, NoMemory> {
+    let fields = in_order(state.alloc, fields)?;
     let mut done = Items::new(state.alloc);
     let mut all = Size::NONE;
-    for Field { label, value } in in_order(state.alloc, fields)? {
+    for field in fields {
         let mut inside = Size::NONE;
-        let value = match value {
-            Some(value) => Some(boxed(state, value, fuel, &mut inside)?),
-            None => None,
-        };
-        done.push(Field { label, value })?;
+        add_field(state, field, fuel, &mut done, &mut inside)?;
         all = all.beside(inside);
     }
     *size = size.then(all.enclosed());
-    Ok(ExprTree::XRecord { fields: done, span })
+    Ok(done)
+}
+
+#[cycle(exprs)]
+fn add_field(
+    state: &mut Bracketing,
+    field: Field,
+    fuel: u32,
+    done: &mut Items<Field>,
+    size: &mut Size,
+) -> Result<(), NoMemory> {
+    let field = field_of(state, field, fuel, size)?;
+    done.push(field)?;
+    Ok(())
+}
+
+#[cycle(exprs)]
+fn field_of(
+    state: &mut Bracketing,
+    field: Field,
+    fuel: u32,
+    size: &mut Size,
+) -> Result<Field, NoMemory> {
+    let Field { label, value } = field;
+    match written_value(state, value, fuel, size) {
+        Ok(value) => Ok(Field { label, value }),
+        Err(error) => Err(error),
+    }
+}
+
+/// The expression behind a label, if one is written.
+#[cycle(exprs)]
+fn written_value(
+    state: &mut Bracketing,
+    value: Option<Boxed<ExprTree>>,
+    fuel: u32,
+    size: &mut Size,
+) -> Result<Option<Boxed<ExprTree>>, NoMemory> {
+    match value {
+        Some(value) => Ok(Some(boxed(state, value, fuel, size)?)),
+        None => Ok(None),
+    }
 }

@@ -7,7 +7,9 @@
 
 mod binders;
 mod binds;
+mod chains;
 mod exprs;
+mod forms;
 mod items;
 mod state;
 mod types;

@@ -1,8 +1,12 @@
 //! What the bracketing of a module knows and finds.
 
-ghost use Rattle.std.specs.Prelude.{◌≡◌, ◌+◌, length, reverse, IfOk};
+ghost use Rattle.std.specs.Prelude.{◌≡◌, ◌+◌, [], ◌∷◌, length, map, reverse, IfOk};
+ghost use Rattle.std.specs.Option.{option_copied};
+ghost use Rattle.psc_chain.specs.Built.{IsBracketed};
+ghost use Rattle.psc_error.specs.declared.code.Code.TheVariants.{NonAssociativeError, MixedAssociativityError};
+ghost use Rattle.psc_order.specs.Operators as spec;
 
-use psc_ast::{Fixities, Mention, Side};
+use psc_ast::{Fixities, Fixity, Mention, Side};
 use psc_brackets::{Clash, Operator};
 use psc_chain::{Bracketed, Chain, Joins, Operand, Size, tree_of};
 use psc_error::Code;
@@ -74,18 +78,11 @@ impl Bracketing {
         let mut values = BTreeMap::new(alloc);
         let mut types = BTreeMap::new(alloc);
         for row in fixities.rows.as_slice() {
-            let operator = Operator {
-                side: row.side,
-                power: row.power,
-            };
-            let target = row.target.clone()?;
-            let known = Known { operator, target };
-            let key = row.op.clone()?;
-            let _before = if row.of_types {
-                types.insert(key, known)?
+            if row.of_types {
+                note(&mut types, row)?;
             } else {
-                values.insert(key, known)?
-            };
+                note(&mut values, row)?;
+            }
         }
         Ok(Bracketing {
             alloc,
@@ -97,7 +94,9 @@ impl Bracketing {
     }
 
     /// The operator that a mention names.
-    fn known(&self, mention: &Mention, space: Space) -> Option<&Known> {
+    fn known(&self, mention: &Mention, space: Space) -> Option<&Known>
+        ensures { option_copied result ≡ spec.known self.now space mention.now }
+    {
         match space {
             Space::Values => self.values.get(&mention.name),
             Space::Types => self.types.get(&mention.name),
@@ -105,7 +104,9 @@ impl Bracketing {
     }
 
     /// The power and side of an operator.
-    fn operator(&self, mention: &Mention, space: Space) -> Operator {
+    fn operator(&self, mention: &Mention, space: Space) -> Operator
+        ensures { result ≡ spec.operator self.now space mention.now }
+    {
         match self.known(mention, space) {
             Some(known) => known.operator,
             None => TIGHTEST,
@@ -113,20 +114,18 @@ impl Bracketing {
     }
 
     /// The mention of an operator's target in the place of the operator. An operator that is not known stands for itself.
-    pub(crate) fn target(&self, mention: &Mention, space: Space) -> Result<Mention, NoMemory> {
-        let name = match self.known(mention, space) {
-            Some(known) => known.target.clone()?,
-            None => mention.name.clone()?,
-        };
-        Ok(Mention {
-            name,
-            span: mention.span,
-        })
+    pub(crate) fn target(&self, mention: &Mention, space: Space) -> Result<Mention, NoMemory>
+        ensures { IfOk result (λ target. target ≡ spec.target self.now space mention.now) }
+    {
+        match self.known(mention, space) {
+            Some(known) => at_place(&known.target, mention.span),
+            None => at_place(&mention.name, mention.span),
+        }
     }
 
     /// The powers and sides of the operators of a chain.
     fn operators(&self, mentions: &[Mention], space: Space) -> Result<Vec<Operator>, NoMemory>
-        ensures { IfOk result (λ operators. length operators.items ≡ length mentions.now) }
+        ensures { IfOk result (λ operators. operators.items ≡ map (λ mention. spec.operator self.now space mention) mentions.now) }
     {
         let mut operators = Vec::new(self.alloc);
         for mention in mentions {
@@ -137,7 +136,7 @@ impl Bracketing {
 
     /// What the operators of a chain stand for.
     fn targets(&self, mentions: &[Mention], space: Space) -> Result<Vec<Mention>, NoMemory>
-        ensures { IfOk result (λ targets. length targets.items ≡ length mentions.now) }
+        ensures { IfOk result (λ targets. targets.items ≡ map (λ mention. spec.target self.now space mention) mentions.now) }
     {
         let mut targets = Vec::new(self.alloc);
         for mention in mentions {
@@ -151,31 +150,31 @@ impl Bracketing {
         if self.refusal.is_some() {
             return Ok(());
         }
-        let (Some(earlier), Some(later)) = (mentions.get(clash.earlier), mentions.get(clash.later))
-        else {
-            return Ok(());
-        };
-        let mut parts = Vec::new(self.alloc);
-        let code = if self.is_infix(earlier, space) && self.is_infix(later, space) {
-            Code::NonAssociativeError
-        } else {
-            parts.push(earlier.name.name.clone()?)?;
-            Code::MixedAssociativityError
-        };
-        parts.push(later.name.name.clone()?)?;
-        self.refusal = Some(Refusal {
-            code,
-            span: later.span,
-            parts,
-        });
-        Ok(())
+        match (mentions.get(clash.earlier), mentions.get(clash.later)) {
+            (Some(earlier), Some(later)) => {
+                let refusal = self.refusal_of(earlier, later, space)?;
+                self.refusal = Some(refusal);
+                Ok(())
+            }
+            _ => Ok(()),
+        }
     }
 
-    /// Whether an operator takes none of its power on either side.
-    fn is_infix(&self, mention: &Mention, space: Space) -> bool {
-        match self.operator(mention, space).side {
-            Side::Neither => true,
-            Side::Left | Side::Right => false,
+    /// What is wrong with two operators.
+    fn refusal_of(
+        &self,
+        earlier: &Mention,
+        later: &Mention,
+        space: Space,
+    ) -> Result<Refusal, NoMemory>
+        ensures place { IfOk result (λ refusal. refusal.span ≡ later.now.span) }
+        ensures code { IfOk result (λ refusal. refusal.code ≡ spec.code_of (spec.operator self.now space earlier.now) (spec.operator self.now space later.now)) }
+        ensures parts { IfOk result (λ refusal. refusal.parts.items ≡ spec.parts_of (spec.operator self.now space earlier.now) (spec.operator self.now space later.now) earlier.now.name.name later.now.name.name) }
+    {
+        if is_infix(self.operator(earlier, space)) && is_infix(self.operator(later, space)) {
+            non_associative(self.alloc, later)
+        } else {
+            mixed(self.alloc, earlier, later)
         }
     }
 
@@ -187,29 +186,163 @@ impl Bracketing {
         span: Span,
         size: &mut Size,
     ) -> Result<T, NoMemory> {
-        let Pieces { operands, mentions } = pieces_of(self.alloc, reading)?;
-        let operators = self.operators(&mentions, space)?;
-        let targets = self.targets(&mentions, space)?;
-        let chain = Chain {
-            operands,
-            operators,
-            targets,
-        };
-        match tree_of(self.alloc, chain)? {
+        match pieces_of(self.alloc, reading) {
+            Ok(pieces) => self.in_pieces(space, pieces, span, size),
+            Err(error) => Err(error),
+        }
+    }
+
+    /// The tree of a chain in pieces.
+    fn in_pieces<T: Joins>(
+        &mut self,
+        space: Space,
+        pieces: Pieces<T>,
+        span: Span,
+        size: &mut Size,
+    ) -> Result<T, NoMemory>
+        requires { length pieces.operands.items ≡ length pieces.mentions.items + 1 }
+    {
+        let Pieces { operands, mentions } = pieces;
+        match self.tree_over(space, operands, &mentions) {
+            Ok(found) => self.settle(space, &mentions, found, span, size),
+            Err(error) => Err(error),
+        }
+    }
+
+    /// What a chain becomes with the operators that its mentions name.
+    fn tree_over<T: Joins>(
+        &self,
+        space: Space,
+        operands: VecDeque<Operand<T>>,
+        mentions: &[Mention],
+    ) -> Result<Bracketed<T>, NoMemory>
+        requires { length operands.items ≡ length mentions.now + 1 }
+        ensures { IfOk result (IsBracketed T.is_operation (map (λ mention. spec.operator self.now space mention) mentions.now) operands.items (map (λ mention. spec.target self.now space mention) mentions.now)) }
+    {
+        match self.operators(mentions, space) {
+            Ok(operators) => self.tree_with(space, operands, mentions, operators),
+            Err(error) => Err(error),
+        }
+    }
+
+    /// What a chain becomes with its operators.
+    fn tree_with<T: Joins>(
+        &self,
+        space: Space,
+        operands: VecDeque<Operand<T>>,
+        mentions: &[Mention],
+        operators: Vec<Operator>,
+    ) -> Result<Bracketed<T>, NoMemory>
+        requires operands { length operands.items ≡ length mentions.now + 1 }
+        requires operators { length operators.items ≡ length mentions.now }
+        ensures { IfOk result (IsBracketed T.is_operation operators.items operands.items (map (λ mention. spec.target self.now space mention) mentions.now)) }
+    {
+        match self.targets(mentions, space) {
+            Ok(targets) => tree_of(
+                self.alloc,
+                Chain {
+                    operands,
+                    operators,
+                    targets,
+                },
+            ),
+            Err(error) => Err(error),
+        }
+    }
+
+    /// The tree of a chain, or what stands in its place where it has none.
+    fn settle<T: Joins>(
+        &mut self,
+        space: Space,
+        mentions: &[Mention],
+        found: Bracketed<T>,
+        span: Span,
+        size: &mut Size,
+    ) -> Result<T, NoMemory> {
+        match found {
             Bracketed::Tree { tree, size: inside } => {
                 *size = size.then(inside);
                 Ok(tree)
             }
-            Bracketed::Clash(clash) => {
-                self.refuse(&mentions, space, clash)?;
-                Ok(T::nothing(span))
-            }
+            Bracketed::Clash(clash) => match self.refuse(mentions, space, clash) {
+                Ok(()) => Ok(T::nothing(span)),
+                Err(error) => Err(error),
+            },
             Bracketed::TooDeep => {
                 self.too_deep = true;
                 Ok(T::nothing(span))
             }
         }
     }
+}
+
+/// Keeps an operator of a table.
+fn note(table: &mut BTreeMap<Qualified, Known>, row: &Fixity) -> Result<(), NoMemory> {
+    let known = known_of(row)?;
+    match row.op.clone() {
+        Ok(key) => {
+            let _before = table.insert(key, known)?;
+            Ok(())
+        }
+        Err(_) => Err(NoMemory),
+    }
+}
+
+fn known_of(row: &Fixity) -> Result<Known, NoMemory>
+    ensures { IfOk result (λ known. known ≡ spec.known_by row.now) }
+{
+    let operator = Operator {
+        side: row.side,
+        power: row.power,
+    };
+    let target = row.target.clone()?;
+    Ok(Known { operator, target })
+}
+
+fn at_place(name: &Qualified, span: Span) -> Result<Mention, NoMemory>
+    ensures { IfOk result (λ mention. mention ≡ spec.mention name.now span) }
+{
+    let name = name.clone()?;
+    Ok(Mention { name, span })
+}
+
+/// Whether an operator takes none of its power on either side.
+fn is_infix(operator: Operator) -> bool
+    ensures { result ≡ spec.is_infix operator }
+{
+    match operator.side {
+        Side::Neither => true,
+        Side::Left | Side::Right => false,
+    }
+}
+
+fn non_associative(alloc: Global, later: &Mention) -> Result<Refusal, NoMemory>
+    ensures place { IfOk result (λ refusal. refusal.span ≡ later.now.span) }
+    ensures code { IfOk result (λ refusal. refusal.code ≡ NonAssociativeError) }
+    ensures parts { IfOk result (λ refusal. refusal.parts.items ≡ later.now.name.name ∷ []) }
+{
+    let mut parts = Vec::new(alloc);
+    parts.push(later.name.name.clone()?)?;
+    Ok(Refusal {
+        code: Code::NonAssociativeError,
+        span: later.span,
+        parts,
+    })
+}
+
+fn mixed(alloc: Global, earlier: &Mention, later: &Mention) -> Result<Refusal, NoMemory>
+    ensures place { IfOk result (λ refusal. refusal.span ≡ later.now.span) }
+    ensures code { IfOk result (λ refusal. refusal.code ≡ MixedAssociativityError) }
+    ensures parts { IfOk result (λ refusal. refusal.parts.items ≡ earlier.now.name.name ∷ (later.now.name.name ∷ [])) }
+{
+    let mut parts = Vec::new(alloc);
+    parts.push(earlier.name.name.clone()?)?;
+    parts.push(later.name.name.clone()?)?;
+    Ok(Refusal {
+        code: Code::MixedAssociativityError,
+        span: later.span,
+        parts,
+    })
 }
 
 /// Where no fixity is known, an operator binds as tightly as one can, to the left.

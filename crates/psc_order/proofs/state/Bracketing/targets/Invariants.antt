@@ -1,5 +1,6 @@
-use Rattle.std.proofs.Common.{◌≡◌, length}
+use Rattle.std.proofs.Common.{◌≡◌, map, take}
+use Rattle.psc_order.specs.Operators as spec
 use Rattle.psc_order.proofs.state.Bracketing.targets.Given as goal
 
 abbrev pub invariant-loop-mention : goal.invariant-loop-mention
-invariant-loop-mention l = length l.targets.items ≡ l.mention-index
+invariant-loop-mention l = l.targets.items ≡ map (λ mention. spec.target l.self l.space mention) (take l.mention-index l.mentions)
