@@ -2,7 +2,9 @@
 
 use crate::exprs::{boxed, expr, made_call};
 use psc_ast::{Alt, Bind, Branch, Clause, ExprTree, Guard, Locals, Mention, Rhs, Sig, Stmt, Test};
-use psc_mentions::{Resolver, binder, binders, bound_names, copy, front_vars, ident, signature};
+use psc_mentions::{
+    Resolver, all_binders, binder, bound_names, copy, front_vars, ident, signature,
+};
 use psc_scope::Stop;
 use psc_text::{NoMemory, Span, Text};
 use sqlite_items::{Boxed, Items};
@@ -13,7 +15,7 @@ pub(crate) fn alternatives(state: &mut Resolver, list: &[Alt]) -> Result<Items<A
     let mut done = Items::new(state.alloc);
     for alt in list {
         let mut names = Vec::new(state.alloc);
-        let binders = binders(state, alt.binders.as_slice(), &mut names)?;
+        let binders = all_binders(state, alt.binders.as_slice(), &mut names)?;
         let mark = state.values.mark();
         state.values.enter_all(&names)?;
         let rhs = right_side(state, &alt.rhs)?;
@@ -229,7 +231,7 @@ pub(crate) fn clause(
     let types = state.type_vars.mark();
     state.type_vars.enter_all(type_vars)?;
     let mut names = Vec::new(state.alloc);
-    let arguments = binders(state, written.arguments.as_slice(), &mut names)?;
+    let arguments = all_binders(state, written.arguments.as_slice(), &mut names)?;
     let mark = state.values.mark();
     state.values.enter_all(&names)?;
     let rhs = right_side(state, &written.rhs)?;

@@ -6,7 +6,7 @@
 
 use crate::binds::{alternatives, bind_segments, do_statements};
 use psc_ast::{ChainStep, ExprTree, Field, Mention, TickStep, Update};
-use psc_mentions::{Resolver, binders, label, typ};
+use psc_mentions::{Resolver, all_binders, label, typ};
 use psc_scope::{Area, Stop};
 use psc_text::{NoMemory, Qualified, Span};
 use sqlite_items::{Boxed, Items};
@@ -229,7 +229,7 @@ fn form(state: &mut Resolver, tree: &ExprTree) -> Result<ExprTree, Stop> {
             span,
         } => {
             let mut names = Vec::new(state.alloc);
-            let binders = binders(state, list.as_slice(), &mut names)?;
+            let binders = all_binders(state, list.as_slice(), &mut names)?;
             let mark = state.values.mark();
             state.values.enter_all(&names)?;
             let body = boxed(state, body)?;
