@@ -5,9 +5,7 @@
 //! as the interface has them: written ones keep their synonyms.
 
 use psc_error::{Code, PsError};
-use psc_externs::{
-    ClassRow, ConstructorRow, ExportRow, Externs, FixityRow, SynonymRow, ValueRow,
-};
+use psc_externs::{ClassRow, ConstructorRow, ExportRow, Externs, FixityRow, SynonymRow, ValueRow};
 use psc_scope::{Area, Key, Problem, error_of};
 use psc_text::{ModuleName, NoMemory, Qualified, Span, Text};
 use psc_type::{Constraint, Ty};
@@ -159,11 +157,7 @@ impl Places {
         Ok(())
     }
 
-    fn add_constructors(
-        &mut self,
-        alloc: Global,
-        rows: &[ConstructorRow],
-    ) -> Result<(), NoMemory> {
+    fn add_constructors(&mut self, alloc: Global, rows: &[ConstructorRow]) -> Result<(), NoMemory> {
         for (place, row) in rows.iter().enumerate() {
             self.add_constructor(alloc, row.parent.text(), place)?;
         }

@@ -228,12 +228,7 @@ struct Taker {
 }
 
 impl Taker {
-    fn take_all(
-        &mut self,
-        world: &World,
-        interface: &Interface,
-        refs: &[Ref],
-    ) -> Result<(), Stop> {
+    fn take_all(&mut self, world: &World, interface: &Interface, refs: &[Ref]) -> Result<(), Stop> {
         for reference in refs {
             self.take(world, interface, reference)?;
         }

@@ -379,21 +379,35 @@ pub(crate) fn ado(state: &mut Resolver, tree: &ExprTree) -> Result<ExprTree, Sto
             let mut names = Vec::new(alloc);
             step_names(statements.as_slice(), &mut names)?;
             let statements = ado_items(state, statements.as_slice(), &mut functions, &mut names)?;
-            let mark = state.values.mark();
-            state.values.enter_all(&names)?;
-            let result = expr(state, result.get())?;
-            state.values.leave(mark)?;
-            let result = match functions.of_result {
-                Some(function) => made_call(alloc, function, result, *span)?,
-                None => result,
-            };
+            let AdoNames { of_result, .. } = functions;
+            let result = ado_result(state, result.get(), &names, of_result, *span)?;
             Ok(ExprTree::Ado {
                 statements,
-                result: Boxed::new(alloc, result)?,
+                result,
                 span: *span,
             })
         }
         _ => Ok(ExprTree::Hole { span: tree.span() }),
+    }
+}
+
+/// The result of an `ado`, in which the names are bound. It is an argument of `pure`, where there is no step.
+#[cycle(exprs)]
+fn ado_result(
+    state: &mut Resolver,
+    tree: &ExprTree,
+    names: &[Text],
+    function: Option<Mention>,
+    span: Span,
+) -> Result<Boxed<ExprTree>, Stop> {
+    let alloc = state.alloc;
+    let mark = state.values.mark();
+    state.values.enter_all(names)?;
+    let result = expr(state, tree)?;
+    state.values.leave(mark)?;
+    match function {
+        Some(function) => Ok(Boxed::new(alloc, made_call(alloc, function, result, span)?)?),
+        None => Ok(Boxed::new(alloc, result)?),
     }
 }
 
