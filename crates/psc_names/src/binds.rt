@@ -1,5 +1,7 @@
 //! Local bindings, right sides, alternatives and statements with true names.
 
+ghost use Rattle.std.specs.Prelude.{◌≡◌, ◌≢◌, [], Some};
+
 use crate::exprs::{boxed, expr, made_call};
 use psc_ast::{Alt, Bind, Branch, Clause, ExprTree, Guard, Locals, Mention, Rhs, Sig, Stmt, Test};
 use psc_mentions::{
@@ -171,7 +173,10 @@ impl Signed {
     }
 
     /// The variables for a clause.
-    pub(crate) fn vars_of(&self, clause: &Clause) -> &[Text] {
+    pub(crate) fn vars_of(&self, clause: &Clause) -> &[Text]
+        ensures signed { self.now.name ≡ Some clause.now.name.name.0 → result.now ≡ self.now.vars.items }
+        ensures others { self.now.name ≢ Some clause.now.name.name.0 → result.now ≡ [] }
+    {
         match &self.name {
             Some(name) if name.same(&clause.name.name.0) => self.vars.as_slice(),
             _ => &[],

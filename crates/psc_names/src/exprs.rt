@@ -4,6 +4,9 @@
 //! value one of `bind` or `discard`, and the steps and the result of an `ado` those of `map`, `apply` and `pure`. These calls
 //! stand in the resolved tree, as calls of one argument.
 
+ghost use Rattle.std.specs.Prelude.{◌≡◌, IfOk};
+ghost use Rattle.psc_names.specs.Names as spec;
+
 use crate::binds::{alternatives, bind_segments, do_statements};
 use psc_ast::{ChainStep, ExprTree, Field, Mention, TickStep, Update};
 use psc_mentions::{Resolver, all_binders, label, typ};
@@ -103,7 +106,9 @@ pub(crate) fn made_call(
     function: Mention,
     argument: ExprTree,
     span: Span,
-) -> Result<ExprTree, NoMemory> {
+) -> Result<ExprTree, NoMemory>
+    ensures { IfOk result (λ call. call ≡ spec.made_call function argument span) }
+{
     let function = Boxed::new(alloc, ExprTree::Variable { name: function })?;
     let mut arguments = Items::new(alloc);
     arguments.push(argument)?;
