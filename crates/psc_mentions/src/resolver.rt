@@ -108,14 +108,14 @@ impl Resolver {
         &mut self,
         area: Area,
         mention: &Mention,
-        module: ModuleName,
+        declarer: ModuleName,
     ) -> Result<Mention, NoMemory>
         ensures scope { self.new.scope ≡ self.old.scope }
-        ensures named { IfOk result (λ found. found ≡ spec.with_module module mention.now) }
-        ensures noted { OnOk result (self.new.uses.items ≡ self.old.uses.items ++ spec.row_of (names.entity area mention.now.name.name) module mention.now) }
+        ensures named { IfOk result (λ found. found ≡ spec.with_module declarer mention.now) }
+        ensures noted { OnOk result (self.new.uses.items ≡ self.old.uses.items ++ spec.row_of (names.entity area mention.now.name.name) declarer mention.now) }
     {
-        self.note(area, mention, &module)?;
-        with_module(mention, module)
+        self.note(area, mention, &declarer)?;
+        with_module(mention, declarer)
     }
 
     /// Notes a mention of what a module declares.
@@ -123,14 +123,14 @@ impl Resolver {
         &mut self,
         area: Area,
         mention: &Mention,
-        module: &ModuleName,
+        declarer: &ModuleName,
     ) -> Result<(), NoMemory>
         ensures scope { self.new.scope ≡ self.old.scope }
-        ensures noted { OnOk result (self.new.uses.items ≡ self.old.uses.items ++ spec.row_of (names.entity area mention.now.name.name) module.now mention.now) }
+        ensures noted { OnOk result (self.new.uses.items ≡ self.old.uses.items ++ spec.row_of (names.entity area mention.now.name.name) declarer.now mention.now) }
     {
         match entity(area, &mention.name.name)? {
             Some(entity) => {
-                let module = module.clone()?;
+                let module = declarer.clone()?;
                 self.uses.push(UseRow {
                     module,
                     entity,
@@ -204,13 +204,13 @@ impl Resolver {
 }
 
 /// A mention with the module that declares it.
-fn with_module(mention: &Mention, module: ModuleName) -> Result<Mention, NoMemory>
-    ensures { IfOk result (λ found. found ≡ spec.with_module module mention.now) }
+fn with_module(mention: &Mention, declarer: ModuleName) -> Result<Mention, NoMemory>
+    ensures { IfOk result (λ found. found ≡ spec.with_module declarer mention.now) }
 {
     match mention.name.name.clone() {
         Ok(name) => Ok(Mention {
             name: Qualified {
-                module: Some(module),
+                module: Some(declarer),
                 name,
             },
             span: mention.span,

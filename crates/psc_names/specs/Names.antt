@@ -20,6 +20,12 @@ side_of assoc.Infix = sides.Neither
 side_of assoc.Infixl = sides.Left
 side_of assoc.Infixr = sides.Right
 
+abbrev pub variable : Mention → ExprTree
+variable name = expr.Variable name
+
+abbrev pub call : Mention → List ExprTree → Span → ExprTree
+call function arguments span = expr.Call (variable function) arguments span
+
 -- a call of a name that is not written, with one argument
 abbrev pub made_call : Mention → ExprTree → Span → ExprTree
-made_call function argument span = expr.Call (expr.Variable function) (argument ∷ []) span
+made_call function argument span = call function (argument ∷ []) span

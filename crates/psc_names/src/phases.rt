@@ -51,7 +51,7 @@ pub fn resolve(
     module: Module,
     env: &[Externs],
 ) -> Result<Result<Resolved, PsError>, NoMemory>
-    ensures { IfOk result (λ found. IfErr found (λ error. error.«module» ≡ Some module.name.name)) }
+    ensures { IfOk result (λ found. IfErr found (λ error. error.«module» ≡ Some «module».name.name)) }
 {
     match find_all(alloc, &module, env) {
         Ok(found) => Ok(Ok(joined(alloc, module, found)?)),
@@ -205,11 +205,11 @@ fn modules_of(
 }
 
 /// The true name of an operator.
-fn true_name(module: &ModuleName, op: &Text) -> Result<Qualified, NoMemory>
-    ensures { IfOk result (λ name. name ≡ spec.true_name module.now op.now) }
+fn true_name(declarer: &ModuleName, op: &Text) -> Result<Qualified, NoMemory>
+    ensures { IfOk result (λ name. name ≡ spec.true_name declarer.now op.now) }
 {
     Ok(Qualified {
-        module: Some(module.clone()?),
+        module: Some(declarer.clone()?),
         name: op.clone()?,
     })
 }
