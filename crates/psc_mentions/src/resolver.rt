@@ -119,12 +119,7 @@ impl Resolver {
     }
 
     /// Notes a mention of what a module declares.
-    fn note(
-        &mut self,
-        area: Area,
-        mention: &Mention,
-        declarer: &ModuleName,
-    ) -> Result<(), NoMemory>
+    fn note(&mut self, area: Area, mention: &Mention, declarer: &ModuleName) -> Result<(), NoMemory>
         ensures scope { self.new.scope ≡ self.old.scope }
         ensures noted { OnOk result (self.new.uses.items ≡ self.old.uses.items ++ spec.row_of (names.entity area mention.now.name.name) declarer.now mention.now) }
     {
