@@ -5,6 +5,7 @@
 //! exports it; with `-` before the word it is not exported; with `of N` behind it, module N declares it and this one exports it.
 //! A TYPE is words: `T` applied to what follows, `^C` a constraint of C before it, `~` a forall, `{` a row's field.
 
+use crate::lists::{bare, none, with};
 use crate::types::{constraint_of, true_name, type_of};
 use psc_externs::{
     Assoc, ClassRow, ConstructorRow, Entity, ExportRow, ExternConstraint, ExternKind, ExternType,
@@ -15,17 +16,11 @@ use psc_text::{ModuleName, NoMemory, OpName, Text, read_module_name};
 use psc_type::Kind;
 use std::alloc::Global;
 
-/// The rows of a module so far.
+/// The interface of a module so far.
 #[derive(Drop)]
 struct Interface {
-    module: ModuleName,
-    classes: Vec<ClassRow>,
-    constructors: Vec<ConstructorRow>,
-    exports: Vec<ExportRow>,
-    fixities: Vec<FixityRow>,
-    synonyms: Vec<SynonymRow>,
-    types: Vec<TypeRow>,
-    values: Vec<ValueRow>,
+    alloc: Global,
+    externs: Externs,
 }
 
 /// The interfaces of a row.
@@ -57,39 +52,44 @@ impl Interfaces {
         for word in line.split_whitespace() {
             words.push(word)?;
         }
-        let [module, word, name, rest @ ..] = words.as_slice() else {
+        self.take_words(words.as_slice())
+    }
+
+    fn take_words(&mut self, words: &[&str]) -> Result<(), NoMemory> {
+        let [module, word, name, rest @ ..] = words else {
             return Ok(());
         };
-        let Some(module) = read_module_name(self.alloc, module)? else {
-            return Ok(());
-        };
-        let (kind, shown) = exported(word);
-        let alloc = self.alloc;
-        let other = declarer(alloc, rest)?;
-        let place = self.place_of(&module)?;
-        let Some(interface) = self.list.get_mut(place) else {
-            return Ok(());
-        };
-        match other {
-            Some(other) => interface.export(alloc, kind, name, other),
-            None => {
-                interface.declare(alloc, kind, name, rest)?;
-                if shown {
-                    interface.export(alloc, kind, name, module)?;
-                }
-                Ok(())
-            }
+        match read_module_name(self.alloc, module)? {
+            Some(module) => self.take_row(&module, word, name, rest),
+            None => Ok(()),
+        }
+    }
+
+    fn take_row(
+        &mut self,
+        module: &ModuleName,
+        word: &str,
+        name: &str,
+        rest: &[&str],
+    ) -> Result<(), NoMemory> {
+        let place = self.place_of(module)?;
+        match self.list.get_mut(place) {
+            Some(interface) => interface.take(word, name, rest),
+            None => Ok(()),
         }
     }
 
     fn place_of(&mut self, module: &ModuleName) -> Result<usize, NoMemory> {
         for (place, interface) in self.list.iter().enumerate() {
-            if interface.module.same(module) {
+            if interface.externs.module.same(module) {
                 return Ok(place);
             }
         }
         let place = self.list.len();
-        self.list.push(Interface::new(self.alloc, module.clone()?))?;
+        self.list.push(Interface {
+            alloc: self.alloc,
+            externs: bare(self.alloc, module)?,
+        })?;
         Ok(place)
     }
 
@@ -99,7 +99,7 @@ impl Interfaces {
         let mut env = Vec::new(alloc);
         let mut owns = Vec::new(alloc);
         for interface in list {
-            let externs = interface.into_externs(alloc)?;
+            let Interface { externs, .. } = interface;
             if externs.module.as_str() == own {
                 owns.push(externs)?;
             } else {
@@ -132,102 +132,134 @@ fn names_of(alloc: Global, words: &[&str]) -> Result<Vec<Name>, NoMemory> {
     Ok(names)
 }
 
+fn assoc_of(word: &str) -> Assoc {
+    match word {
+        "infixl" => Assoc::Infixl,
+        "infixr" => Assoc::Infixr,
+        _ => Assoc::Infix,
+    }
+}
+
+fn power_of(word: &str) -> u8 {
+    match word.parse::<u8>() {
+        Ok(power) => power,
+        Err(_) => 0,
+    }
+}
+
 impl Interface {
-    fn new(alloc: Global, module: ModuleName) -> Interface {
-        Interface {
-            module,
-            classes: Vec::new(alloc),
-            constructors: Vec::new(alloc),
-            exports: Vec::new(alloc),
-            fixities: Vec::new(alloc),
-            synonyms: Vec::new(alloc),
-            types: Vec::new(alloc),
-            values: Vec::new(alloc),
+    fn take(&mut self, word: &str, name: &str, rest: &[&str]) -> Result<(), NoMemory> {
+        let (kind, shown) = exported(word);
+        match declarer(self.alloc, rest)? {
+            Some(other) => self.export(kind, name, other),
+            None => {
+                self.declare(kind, name, rest)?;
+                if shown {
+                    self.export_own(kind, name)
+                } else {
+                    Ok(())
+                }
+            }
         }
     }
 
-    fn declare(
-        &mut self,
-        alloc: Global,
-        kind: &str,
-        name: &str,
-        words: &[&str],
-    ) -> Result<(), NoMemory> {
+    fn declare(&mut self, kind: &str, name: &str, words: &[&str]) -> Result<(), NoMemory> {
         match kind {
-            "value" => self.value(alloc, name, words),
-            "type" => self.x_type(alloc, name),
-            "synonym" => self.synonym(alloc, name, words),
-            "class" => self.class(alloc, name, words),
-            "ctor" => self.constructor(alloc, name, words),
-            "valueop" => self.fixity(alloc, OpSpace::ValueOp, name, words),
-            _ => self.fixity(alloc, OpSpace::TypeOp, name, words),
+            "valueop" => self.fixity(OpSpace::ValueOp, name, words),
+            "typeop" => self.fixity(OpSpace::TypeOp, name, words),
+            _ => match name_of(self.alloc, name)? {
+                Some(name) => self.declare_named(kind, name, words),
+                None => Ok(()),
+            },
         }
     }
 
-    fn written(&self, alloc: Global, words: &[&str]) -> Result<Option<ExternType>, NoMemory> {
-        Ok(ExternType::new(type_of(alloc, &self.module, words)?))
+    fn declare_named(&mut self, kind: &str, name: Name, words: &[&str]) -> Result<(), NoMemory> {
+        match kind {
+            "value" => self.value(name, words),
+            "type" => self.x_type(name),
+            "synonym" => self.synonym(name, words),
+            "class" => self.class(name, words),
+            _ => self.constructor(name, words),
+        }
     }
 
-    fn value(&mut self, alloc: Global, name: &str, words: &[&str]) -> Result<(), NoMemory> {
-        let x_type = self.written(alloc, words)?;
-        if let (Some(name), Some(x_type)) = (name_of(alloc, name)?, x_type) {
-            self.values.push(ValueRow { name, x_type })?;
+    fn written(&self, words: &[&str]) -> Result<Option<ExternType>, NoMemory> {
+        Ok(ExternType::new(type_of(self.alloc, &self.externs.module, words)?))
+    }
+
+    fn value(&mut self, name: Name, words: &[&str]) -> Result<(), NoMemory> {
+        if let Some(x_type) = self.written(words)? {
+            let row = ValueRow { name, x_type };
+            self.externs.values = with(self.alloc, &self.externs.values, row)?;
         }
         Ok(())
     }
 
-    fn x_type(&mut self, alloc: Global, name: &str) -> Result<(), NoMemory> {
-        let kind = ExternKind::new(Kind::Star);
-        if let (Some(name), Some(kind)) = (name_of(alloc, name)?, kind) {
-            self.types.push(TypeRow {
-                constructors: SharedItems::from_vec(alloc, Vec::new(alloc))?,
+    fn x_type(&mut self, name: Name) -> Result<(), NoMemory> {
+        if let Some(kind) = ExternKind::new(Kind::Star) {
+            let row = TypeRow {
+                constructors: none(self.alloc)?,
                 kind,
                 name,
                 newtype: false,
-            })?;
+            };
+            self.externs.types = with(self.alloc, &self.externs.types, row)?;
         }
         Ok(())
     }
 
-    fn synonym(&mut self, alloc: Global, name: &str, words: &[&str]) -> Result<(), NoMemory> {
-        self.x_type(alloc, name)?;
-        let body = self.written(alloc, words)?;
-        if let (Some(name), Some(body)) = (name_of(alloc, name)?, body) {
-            self.synonyms.push(SynonymRow {
+    fn synonym(&mut self, name: Name, words: &[&str]) -> Result<(), NoMemory> {
+        self.x_type(name.clone()?)?;
+        if let Some(body) = self.written(words)? {
+            let row = SynonymRow {
                 body,
                 name,
-                params: SharedItems::from_vec(alloc, Vec::new(alloc))?,
-            })?;
+                params: none(self.alloc)?,
+            };
+            self.externs.synonyms = with(self.alloc, &self.externs.synonyms, row)?;
         }
         Ok(())
     }
 
-    fn class(&mut self, alloc: Global, name: &str, words: &[&str]) -> Result<(), NoMemory> {
+    fn class(&mut self, name: Name, words: &[&str]) -> Result<(), NoMemory> {
         let mut parts = words.split(|word| *word == "<");
-        let members = match parts.next() {
-            Some(members) => names_of(alloc, members)?,
-            None => Vec::new(alloc),
+        let (members, supers) = (parts.next(), parts.next());
+        let members = match members {
+            Some(members) => names_of(self.alloc, members)?,
+            None => Vec::new(self.alloc),
         };
-        let supers = match parts.next() {
-            Some(supers) => self.supers(alloc, supers)?,
-            None => Vec::new(alloc),
+        let supers = match supers {
+            Some(supers) => self.supers(supers)?,
+            None => Vec::new(self.alloc),
         };
-        if let Some(name) = name_of(alloc, name)? {
-            self.classes.push(ClassRow {
-                deps: SharedItems::from_vec(alloc, Vec::new(alloc))?,
-                members: SharedItems::from_vec(alloc, members)?,
-                name,
-                params: SharedItems::from_vec(alloc, Vec::new(alloc))?,
-                supers: SharedItems::from_vec(alloc, supers)?,
-            })?;
-        }
+        self.add_class(name, members, supers)
+    }
+
+    fn add_class(
+        &mut self,
+        name: Name,
+        members: Vec<Name>,
+        supers: Vec<ExternConstraint>,
+    ) -> Result<(), NoMemory> {
+        let alloc = self.alloc;
+        let members = SharedItems::from_vec(alloc, members)?;
+        let supers = SharedItems::from_vec(alloc, supers)?;
+        let row = ClassRow {
+            deps: none(alloc)?,
+            members,
+            name,
+            params: none(alloc)?,
+            supers,
+        };
+        self.externs.classes = with(alloc, &self.externs.classes, row)?;
         Ok(())
     }
 
-    fn supers(&self, alloc: Global, words: &[&str]) -> Result<Vec<ExternConstraint>, NoMemory> {
-        let mut supers = Vec::new(alloc);
+    fn supers(&self, words: &[&str]) -> Result<Vec<ExternConstraint>, NoMemory> {
+        let mut supers = Vec::new(self.alloc);
         for word in words {
-            let constraint = constraint_of(alloc, &self.module, word)?;
+            let constraint = constraint_of(self.alloc, &self.externs.module, word)?;
             if let Some(constraint) = ExternConstraint::new(constraint) {
                 supers.push(constraint)?;
             }
@@ -235,90 +267,67 @@ impl Interface {
         Ok(supers)
     }
 
-    fn constructor(&mut self, alloc: Global, name: &str, words: &[&str]) -> Result<(), NoMemory> {
+    fn constructor(&mut self, name: Name, words: &[&str]) -> Result<(), NoMemory> {
         let Some((parent, _fields)) = words.split_first() else {
             return Ok(());
         };
-        let x_type = self.written(alloc, words)?;
-        let (name, parent) = (name_of(alloc, name)?, name_of(alloc, parent)?);
-        if let (Some(name), Some(parent), Some(x_type)) = (name, parent, x_type) {
-            self.constructors.push(ConstructorRow {
+        match name_of(self.alloc, parent)? {
+            Some(parent) => self.constructor_of(name, parent, words),
+            None => Ok(()),
+        }
+    }
+
+    fn constructor_of(&mut self, name: Name, parent: Name, words: &[&str]) -> Result<(), NoMemory> {
+        if let Some(x_type) = self.written(words)? {
+            let row = ConstructorRow {
                 name,
                 parent,
                 x_type,
-            })?;
+            };
+            self.externs.constructors = with(self.alloc, &self.externs.constructors, row)?;
         }
         Ok(())
     }
 
-    fn fixity(
-        &mut self,
-        alloc: Global,
-        space: OpSpace,
-        op: &str,
-        words: &[&str],
-    ) -> Result<(), NoMemory> {
+    fn fixity(&mut self, space: OpSpace, op: &str, words: &[&str]) -> Result<(), NoMemory> {
         let [side, power, target] = words else {
             return Ok(());
         };
-        let assoc = match *side {
-            "infixl" => Assoc::Infixl,
-            "infixr" => Assoc::Infixr,
-            _ => Assoc::Infix,
-        };
-        let precedence = match power.parse::<u8>() {
-            Ok(power) => power,
-            Err(_) => 0,
-        };
-        let (module, name) = true_name(alloc, &self.module, target)?;
-        if let Some(name) = Name::new(name) {
-            self.fixities.push(FixityRow {
-                assoc,
-                op: OpName(Text::new(alloc, op)?),
-                precedence,
-                space,
-                target: TrueName { module, name },
-            })?;
+        match self.target(target)? {
+            Some(target) => {
+                let row = FixityRow {
+                    assoc: assoc_of(side),
+                    op: OpName(Text::new(self.alloc, op)?),
+                    precedence: power_of(power),
+                    space,
+                    target,
+                };
+                self.externs.fixities = with(self.alloc, &self.externs.fixities, row)?;
+                Ok(())
+            }
+            None => Ok(()),
         }
-        Ok(())
     }
 
-    fn export(
-        &mut self,
-        alloc: Global,
-        kind: &str,
-        name: &str,
-        module: ModuleName,
-    ) -> Result<(), NoMemory> {
-        if let Some(entity) = entity_of(alloc, kind, name)? {
-            self.exports.push(ExportRow { entity, module })?;
+    fn target(&self, word: &str) -> Result<Option<TrueName>, NoMemory> {
+        let (module, name) = true_name(self.alloc, &self.externs.module, word)?;
+        match Name::new(name) {
+            Some(name) => Ok(Some(TrueName { module, name })),
+            None => Ok(None),
         }
-        Ok(())
     }
 
-    fn into_externs(self, alloc: Global) -> Result<Externs, NoMemory> {
-        let Interface {
-            module,
-            classes,
-            constructors,
-            exports,
-            fixities,
-            synonyms,
-            types,
-            values,
-        } = self;
-        Ok(Externs {
-            classes: SharedItems::from_vec(alloc, classes)?,
-            constructors: SharedItems::from_vec(alloc, constructors)?,
-            exports: SharedItems::from_vec(alloc, exports)?,
-            fixities: SharedItems::from_vec(alloc, fixities)?,
-            imports: SharedItems::from_vec(alloc, Vec::new(alloc))?,
-            instances: SharedItems::from_vec(alloc, Vec::new(alloc))?,
-            module,
-            synonyms: SharedItems::from_vec(alloc, synonyms)?,
-            types: SharedItems::from_vec(alloc, types)?,
-            values: SharedItems::from_vec(alloc, values)?,
-        })
+    fn export_own(&mut self, kind: &str, name: &str) -> Result<(), NoMemory> {
+        let module = self.externs.module.clone()?;
+        self.export(kind, name, module)
+    }
+
+    fn export(&mut self, kind: &str, name: &str, module: ModuleName) -> Result<(), NoMemory> {
+        if let Some(entity) = entity_of(self.alloc, kind, name)? {
+            let row = ExportRow { entity, module };
+            self.externs.exports = with(self.alloc, &self.externs.exports, row)?;
+        }
+        Ok(())
     }
 }
 

@@ -9,12 +9,13 @@
 
 mod corpus;
 mod interfaces;
+mod lists;
 mod own;
 mod types;
 
 use crate::corpus::Corpus;
 use crate::interfaces::Interfaces;
-use psc_ast::{Fixity, Side};
+use psc_ast::{Fixity, Module, Side};
 use psc_ast_text::module_text;
 use psc_error::{PsError, error_line};
 use psc_externs::{Entity, ExportRow, Externs, Space, UseRow};
@@ -149,7 +150,7 @@ fn closed_text(alloc: Global, resolved: &Resolved, owns: &[Externs]) -> Result<S
 
 fn resolved_text(
     alloc: Global,
-    resolved: Resolved,
+    resolved: &Resolved,
     look: Look,
     owns: &[Externs],
 ) -> Result<String, NoMemory> {
@@ -157,8 +158,21 @@ fn resolved_text(
         Look::Resolved => module_text(alloc, &resolved.module, false),
         Look::Fixities => fixities_text(alloc, resolved.fixities.rows.as_slice()),
         Look::Uses => uses_text(alloc, &resolved.uses),
-        Look::Exports => exports_text(alloc, &resolved),
-        Look::Closed => closed_text(alloc, &resolved, owns),
+        Look::Exports => exports_text(alloc, resolved),
+        Look::Closed => closed_text(alloc, resolved, owns),
+    }
+}
+
+fn module_outcome(
+    alloc: Global,
+    module: Module,
+    look: Look,
+    env: &[Externs],
+    owns: &[Externs],
+) -> Result<String, NoMemory> {
+    match resolve(alloc, module, env)? {
+        Err(error) => error_text(alloc, &error),
+        Ok(resolved) => resolved_text(alloc, &resolved, look, owns),
     }
 }
 
@@ -193,10 +207,7 @@ impl Rows {
         let (env, owns) = interfaces.into_env("M")?;
         match parse(alloc, self.source.as_str())? {
             Err(error) => error_text(alloc, &error),
-            Ok(module) => match resolve(alloc, module, &env)? {
-                Err(error) => error_text(alloc, &error),
-                Ok(resolved) => resolved_text(alloc, resolved, look, &owns),
-            },
+            Ok(module) => module_outcome(alloc, module, look, &env, &owns),
         }
     }
 

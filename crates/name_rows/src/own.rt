@@ -1,64 +1,39 @@
 //! The interface of a resolved module, as far as names are concerned: each type in it is one symbol.
 
-use psc_ast::{ClassDecl, DataDecl, Decl, FixityDecl, Side};
+use crate::lists::{bare, none, with};
+use psc_ast::{ClassDecl, DataDecl, Decl, FixityDecl, Side, Sig};
 use psc_externs::{
-    Assoc, ClassRow, ConstructorRow, ExternKind, ExternType, Externs, FixityRow, Name, OpSpace,
-    SynonymRow, TrueName, TypeRow, ValueRow,
+    Assoc, ClassRow, ConstructorRow, ExportRow, ExternKind, ExternType, Externs, FixityRow, Name,
+    OpSpace, SynonymRow, TrueName, TypeRow, ValueRow,
 };
 use psc_items::SharedItems;
 use psc_names::Resolved;
-use psc_text::{NoMemory, Qualified, Text};
+use psc_text::{ModuleName, NoMemory, Qualified, Text};
 use psc_type::{Kind, Ty};
 use std::alloc::Global;
 
-/// The rows so far.
+/// The interface so far.
 #[derive(Drop)]
 struct Rows {
     alloc: Global,
-    classes: Vec<ClassRow>,
-    constructors: Vec<ConstructorRow>,
-    fixities: Vec<FixityRow>,
-    synonyms: Vec<SynonymRow>,
-    types: Vec<TypeRow>,
-    values: Vec<ValueRow>,
+    externs: Externs,
 }
 
 /// The interface of a module.
 pub(crate) fn interface_of(alloc: Global, resolved: Resolved) -> Result<Externs, NoMemory> {
+    let Resolved {
+        module,
+        exports,
+        ..
+    } = resolved;
     let mut rows = Rows {
         alloc,
-        classes: Vec::new(alloc),
-        constructors: Vec::new(alloc),
-        fixities: Vec::new(alloc),
-        synonyms: Vec::new(alloc),
-        types: Vec::new(alloc),
-        values: Vec::new(alloc),
+        externs: bare(alloc, &module.name.name)?,
     };
-    for decl in resolved.module.decls.as_slice() {
-        rows.decl(decl)?;
+    match rows.all(module.decls.as_slice(), exports) {
+        Ok(()) => Ok(rows.externs),
+        Err(error) => Err(error),
     }
-    let module = resolved.module.name.name.clone()?;
-    let Rows {
-        classes,
-        constructors,
-        fixities,
-        synonyms,
-        types,
-        values,
-        ..
-    } = rows;
-    Ok(Externs {
-        classes: SharedItems::from_vec(alloc, classes)?,
-        constructors: SharedItems::from_vec(alloc, constructors)?,
-        exports: SharedItems::from_vec(alloc, resolved.exports)?,
-        fixities: SharedItems::from_vec(alloc, fixities)?,
-        imports: SharedItems::from_vec(alloc, Vec::new(alloc))?,
-        instances: SharedItems::from_vec(alloc, Vec::new(alloc))?,
-        module,
-        synonyms: SharedItems::from_vec(alloc, synonyms)?,
-        types: SharedItems::from_vec(alloc, types)?,
-        values: SharedItems::from_vec(alloc, values)?,
-    })
 }
 
 fn name_of(name: &Text) -> Result<Option<Name>, NoMemory> {
@@ -66,16 +41,47 @@ fn name_of(name: &Text) -> Result<Option<Name>, NoMemory> {
 }
 
 fn true_name(name: &Qualified) -> Result<Option<TrueName>, NoMemory> {
-    match (&name.module, name_of(&name.name)?) {
-        (Some(module), Some(name)) => Ok(Some(TrueName {
+    match &name.module {
+        Some(module) => declared_name(module, &name.name),
+        None => Ok(None),
+    }
+}
+
+fn declared_name(module: &ModuleName, name: &Text) -> Result<Option<TrueName>, NoMemory> {
+    match name_of(name)? {
+        Some(name) => Ok(Some(TrueName {
             module: module.clone()?,
             name,
         })),
-        _ => Ok(None),
+        None => Ok(None),
+    }
+}
+
+fn assoc_of(side: Side) -> Assoc {
+    match side {
+        Side::Left => Assoc::Infixl,
+        Side::Right => Assoc::Infixr,
+        Side::Neither => Assoc::Infix,
+    }
+}
+
+fn space_of(fixity: &FixityDecl) -> OpSpace {
+    if fixity.of_types {
+        OpSpace::TypeOp
+    } else {
+        OpSpace::ValueOp
     }
 }
 
 impl Rows {
+    fn all(&mut self, decls: &[Decl], exports: Vec<ExportRow>) -> Result<(), NoMemory> {
+        self.externs.exports = SharedItems::from_vec(self.alloc, exports)?;
+        for decl in decls {
+            self.decl(decl)?;
+        }
+        Ok(())
+    }
+
     /// A type that stands for every one.
     fn written(&self) -> Result<Option<ExternType>, NoMemory> {
         let name = Ty::Symbol(Text::new(self.alloc, "type")?);
@@ -96,35 +102,56 @@ impl Rows {
     }
 
     fn value(&mut self, name: &Text) -> Result<(), NoMemory> {
-        let x_type = self.written()?;
-        if let (Some(name), Some(x_type)) = (name_of(name)?, x_type) {
-            self.values.push(ValueRow { name, x_type })?;
+        match name_of(name)? {
+            Some(name) => self.named_value(name),
+            None => Ok(()),
+        }
+    }
+
+    fn named_value(&mut self, name: Name) -> Result<(), NoMemory> {
+        if let Some(x_type) = self.written()? {
+            let row = ValueRow { name, x_type };
+            self.externs.values = with(self.alloc, &self.externs.values, row)?;
         }
         Ok(())
     }
 
     fn x_type(&mut self, name: &Text) -> Result<(), NoMemory> {
-        let kind = ExternKind::new(Kind::Star);
-        if let (Some(name), Some(kind)) = (name_of(name)?, kind) {
-            self.types.push(TypeRow {
-                constructors: SharedItems::from_vec(self.alloc, Vec::new(self.alloc))?,
+        match name_of(name)? {
+            Some(name) => self.named_type(name),
+            None => Ok(()),
+        }
+    }
+
+    fn named_type(&mut self, name: Name) -> Result<(), NoMemory> {
+        if let Some(kind) = ExternKind::new(Kind::Star) {
+            let row = TypeRow {
+                constructors: none(self.alloc)?,
                 kind,
                 name,
                 newtype: false,
-            })?;
+            };
+            self.externs.types = with(self.alloc, &self.externs.types, row)?;
         }
         Ok(())
     }
 
     fn synonym(&mut self, name: &Text) -> Result<(), NoMemory> {
         self.x_type(name)?;
-        let body = self.written()?;
-        if let (Some(name), Some(body)) = (name_of(name)?, body) {
-            self.synonyms.push(SynonymRow {
+        match name_of(name)? {
+            Some(name) => self.named_synonym(name),
+            None => Ok(()),
+        }
+    }
+
+    fn named_synonym(&mut self, name: Name) -> Result<(), NoMemory> {
+        if let Some(body) = self.written()? {
+            let row = SynonymRow {
                 body,
                 name,
-                params: SharedItems::from_vec(self.alloc, Vec::new(self.alloc))?,
-            })?;
+                params: none(self.alloc)?,
+            };
+            self.externs.synonyms = with(self.alloc, &self.externs.synonyms, row)?;
         }
         Ok(())
     }
@@ -132,58 +159,77 @@ impl Rows {
     fn data(&mut self, data: &DataDecl) -> Result<(), NoMemory> {
         self.x_type(&data.name.name)?;
         for ctor in data.ctors.as_slice() {
-            let x_type = self.written()?;
-            let (name, parent) = (name_of(&ctor.name.name)?, name_of(&data.name.name)?);
-            if let (Some(name), Some(parent), Some(x_type)) = (name, parent, x_type) {
-                self.constructors.push(ConstructorRow {
-                    name,
-                    parent,
-                    x_type,
-                })?;
-            }
+            self.constructor(&ctor.name.name, &data.name.name)?;
+        }
+        Ok(())
+    }
+
+    fn constructor(&mut self, name: &Text, parent: &Text) -> Result<(), NoMemory> {
+        let Some(name) = name_of(name)? else {
+            return Ok(());
+        };
+        match name_of(parent)? {
+            Some(parent) => self.named_constructor(name, parent),
+            None => Ok(()),
+        }
+    }
+
+    fn named_constructor(&mut self, name: Name, parent: Name) -> Result<(), NoMemory> {
+        if let Some(x_type) = self.written()? {
+            let row = ConstructorRow {
+                name,
+                parent,
+                x_type,
+            };
+            self.externs.constructors = with(self.alloc, &self.externs.constructors, row)?;
         }
         Ok(())
     }
 
     fn class(&mut self, class: &ClassDecl) -> Result<(), NoMemory> {
+        let members = self.members(class.members.as_slice())?;
+        match name_of(&class.name.name)? {
+            Some(name) => self.named_class(name, members),
+            None => Ok(()),
+        }
+    }
+
+    /// Adds the members of a class as values, and tells their names.
+    fn members(&mut self, sigs: &[Sig]) -> Result<Vec<Name>, NoMemory> {
         let mut members = Vec::new(self.alloc);
-        for member in class.members.as_slice() {
+        for member in sigs {
             self.value(&member.name.name.0)?;
             if let Some(name) = name_of(&member.name.name.0)? {
                 members.push(name)?;
             }
         }
-        if let Some(name) = name_of(&class.name.name)? {
-            self.classes.push(ClassRow {
-                deps: SharedItems::from_vec(self.alloc, Vec::new(self.alloc))?,
-                members: SharedItems::from_vec(self.alloc, members)?,
-                name,
-                params: SharedItems::from_vec(self.alloc, Vec::new(self.alloc))?,
-                supers: SharedItems::from_vec(self.alloc, Vec::new(self.alloc))?,
-            })?;
-        }
+        Ok(members)
+    }
+
+    fn named_class(&mut self, name: Name, members: Vec<Name>) -> Result<(), NoMemory> {
+        let alloc = self.alloc;
+        let members = SharedItems::from_vec(alloc, members)?;
+        let row = ClassRow {
+            deps: none(alloc)?,
+            members,
+            name,
+            params: none(alloc)?,
+            supers: none(alloc)?,
+        };
+        self.externs.classes = with(alloc, &self.externs.classes, row)?;
         Ok(())
     }
 
     fn fixity(&mut self, fixity: &FixityDecl) -> Result<(), NoMemory> {
-        let assoc = match fixity.side {
-            Side::Left => Assoc::Infixl,
-            Side::Right => Assoc::Infixr,
-            Side::Neither => Assoc::Infix,
-        };
-        let space = if fixity.of_types {
-            OpSpace::TypeOp
-        } else {
-            OpSpace::ValueOp
-        };
         if let Some(target) = true_name(&fixity.target.name)? {
-            self.fixities.push(FixityRow {
-                assoc,
+            let row = FixityRow {
+                assoc: assoc_of(fixity.side),
                 op: fixity.op.op.clone()?,
                 precedence: fixity.power,
-                space,
+                space: space_of(fixity),
                 target,
-            })?;
+            };
+            self.externs.fixities = with(self.alloc, &self.externs.fixities, row)?;
         }
         Ok(())
     }

@@ -5,7 +5,7 @@
 //! as the interface has them: written ones keep their synonyms.
 
 use psc_error::{Code, PsError};
-use psc_externs::{ClassRow, ExportRow, Externs, FixityRow};
+use psc_externs::{ClassRow, ConstructorRow, ExportRow, Externs, FixityRow, SynonymRow, ValueRow};
 use psc_scope::{Area, Key, Problem, error_of};
 use psc_text::{ModuleName, NoMemory, Qualified, Span, Text};
 use psc_type::{Constraint, Ty};
@@ -50,21 +50,29 @@ pub fn exports_closed(
     brought: &[Span],
     own: &Externs,
 ) -> Result<Result<(), PsError>, NoMemory> {
+    match first_lack(alloc, exports, brought, own)? {
+        None => Ok(Ok(())),
+        Some(lack) => Ok(Err(lack_error(alloc, &own.module, lack)?)),
+    }
+}
+
+/// The first lack of all exports.
+fn first_lack(
+    alloc: Global,
+    exports: &[ExportRow],
+    brought: &[Span],
+    own: &Externs,
+) -> Result<Option<Lack>, NoMemory> {
+    let places = Places::of(alloc, own)?;
     let mut closing = Closing {
         alloc,
         own,
         exported: own_exports(alloc, exports, &own.module)?,
         first: None,
     };
-    let places = Places::of(alloc, own)?;
-    for (row, span) in exports.iter().zip(brought) {
-        if row.module.same(&own.module) {
-            closing.export(&places, row, *span)?;
-        }
-    }
-    match closing.first {
-        None => Ok(Ok(())),
-        Some(lack) => Ok(Err(lack_error(alloc, &own.module, lack)?)),
+    match closing.exports(&places, exports, brought) {
+        Ok(()) => Ok(closing.first),
+        Err(error) => Err(error),
     }
 }
 
@@ -106,23 +114,54 @@ impl Places {
             fixities: BTreeMap::new(alloc),
             constructors: BTreeMap::new(alloc),
         };
-        for (place, row) in own.values.as_slice().iter().enumerate() {
-            let _before = places.values.insert(row.name.text().clone()?, place)?;
+        match places.add_all(alloc, own) {
+            Ok(()) => Ok(places),
+            Err(error) => Err(error),
         }
-        for (place, row) in own.synonyms.as_slice().iter().enumerate() {
-            let _before = places.synonyms.insert(row.name.text().clone()?, place)?;
+    }
+
+    fn add_all(&mut self, alloc: Global, own: &Externs) -> Result<(), NoMemory> {
+        self.add_values(own.values.as_slice())?;
+        self.add_synonyms(own.synonyms.as_slice())?;
+        self.add_classes(own.classes.as_slice())?;
+        self.add_fixities(own.fixities.as_slice())?;
+        self.add_constructors(alloc, own.constructors.as_slice())
+    }
+
+    fn add_values(&mut self, rows: &[ValueRow]) -> Result<(), NoMemory> {
+        for (place, row) in rows.iter().enumerate() {
+            let _before = self.values.insert(row.name.text().clone()?, place)?;
         }
-        for (place, row) in own.classes.as_slice().iter().enumerate() {
-            let _before = places.classes.insert(row.name.text().clone()?, place)?;
+        Ok(())
+    }
+
+    fn add_synonyms(&mut self, rows: &[SynonymRow]) -> Result<(), NoMemory> {
+        for (place, row) in rows.iter().enumerate() {
+            let _before = self.synonyms.insert(row.name.text().clone()?, place)?;
         }
-        for (place, row) in own.fixities.as_slice().iter().enumerate() {
+        Ok(())
+    }
+
+    fn add_classes(&mut self, rows: &[ClassRow]) -> Result<(), NoMemory> {
+        for (place, row) in rows.iter().enumerate() {
+            let _before = self.classes.insert(row.name.text().clone()?, place)?;
+        }
+        Ok(())
+    }
+
+    fn add_fixities(&mut self, rows: &[FixityRow]) -> Result<(), NoMemory> {
+        for (place, row) in rows.iter().enumerate() {
             let key = Key::plain(Area::of_operator(row.space), &row.op.0)?;
-            let _before = places.fixities.insert(key, place)?;
+            let _before = self.fixities.insert(key, place)?;
         }
-        for (place, row) in own.constructors.as_slice().iter().enumerate() {
-            places.add_constructor(alloc, row.parent.text(), place)?;
+        Ok(())
+    }
+
+    fn add_constructors(&mut self, alloc: Global, rows: &[ConstructorRow]) -> Result<(), NoMemory> {
+        for (place, row) in rows.iter().enumerate() {
+            self.add_constructor(alloc, row.parent.text(), place)?;
         }
-        Ok(places)
+        Ok(())
     }
 
     fn add_constructor(
@@ -143,6 +182,21 @@ impl Places {
 }
 
 impl<'a> Closing<'a> {
+    /// Looks at what all own exports need.
+    fn exports(
+        &mut self,
+        places: &Places,
+        exports: &[ExportRow],
+        brought: &[Span],
+    ) -> Result<(), NoMemory> {
+        for (row, span) in exports.iter().zip(brought) {
+            if row.module.same(&self.own.module) {
+                self.export(places, row, *span)?;
+            }
+        }
+        Ok(())
+    }
+
     /// Looks at what an own export needs.
     fn export(&mut self, places: &Places, row: &ExportRow, span: Span) -> Result<(), NoMemory> {
         let name = row.entity.text();

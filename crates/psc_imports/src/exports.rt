@@ -43,15 +43,10 @@ pub fn export_all(
         module: module.name.name.clone()?,
         names: BTreeMap::new(alloc),
     };
-    match &module.exports {
-        Some(exports) => {
-            for export in exports.as_slice() {
-                exporter.export(own, imported, export)?;
-            }
-        }
-        None => exporter.all_own(own, Span::START)?,
+    match exporter.all(module, own, imported) {
+        Ok(()) => Ok(into_rows(alloc, exporter.names)?),
+        Err(stop) => Err(stop),
     }
-    exporter.into_rows()
 }
 
 #[derive(Drop)]
@@ -62,6 +57,18 @@ struct Exporter {
 }
 
 impl Exporter {
+    fn all(&mut self, module: &Module, own: &Own, imported: &Imported) -> Result<(), Stop> {
+        match &module.exports {
+            Some(exports) => {
+                for export in exports.as_slice() {
+                    self.export(own, imported, export)?;
+                }
+                Ok(())
+            }
+            None => self.all_own(own, Span::START),
+        }
+    }
+
     fn export(&mut self, own: &Own, imported: &Imported, export: &Export) -> Result<(), Stop> {
         match export {
             Export::Ref(reference) => self.reference(own, reference),
@@ -149,18 +156,28 @@ impl Exporter {
         name: &ModuleAt,
         span: Span,
     ) -> Result<(), Stop> {
-        let lists = imported.lists_of(&name.name);
         let is_own = self.module.same(&name.name);
-        if is_own {
-            self.all_own(own, span)?;
-        } else if lists.is_none() {
-            return Err(self.unknown(name.name.text(), name.span));
-        }
-        if let Some(places) = lists {
-            for place in places {
-                if let Some(rows) = imported.lists.get(*place) {
-                    self.given(rows, span)?;
+        match imported.lists_of(&name.name) {
+            Some(places) => {
+                if is_own {
+                    self.all_own(own, span)?;
                 }
+                self.all_given(imported, places, span)
+            }
+            None => {
+                if is_own {
+                    self.all_own(own, span)
+                } else {
+                    Err(self.unknown(name.name.text(), name.span))
+                }
+            }
+        }
+    }
+
+    fn all_given(&mut self, imported: &Imported, places: &[usize], span: Span) -> Result<(), Stop> {
+        for place in places {
+            if let Some(rows) = imported.lists.get(*place) {
+                self.given(rows, span)?;
             }
         }
         Ok(())
@@ -193,39 +210,62 @@ impl Exporter {
         span: Span,
     ) -> Result<(), Stop> {
         let key = Key::plain(area, name)?;
-        if let Some(before) = self.names.get(&key) {
-            if before.module.same(module) {
-                return Ok(());
+        match self.names.get(&key) {
+            Some(before) => {
+                if before.module.same(module) {
+                    Ok(())
+                } else {
+                    Err(export_conflict(self.alloc, name, &before.module, module, span))
+                }
             }
-            let modules = ascending(self.alloc, &before.module, module)?;
-            return Err(conflict(self.alloc, Code::ExportConflict, name, &modules, span));
+            None => Ok(self.insert(key, module, span)?),
         }
-        let _before = self.names.insert(
-            key,
-            Origin {
-                module: module.clone()?,
-                span,
-            },
-        )?;
-        Ok(())
     }
 
-    fn into_rows(self) -> Result<Exported, Stop> {
-        let Exporter { alloc, names, .. } = self;
-        let mut exported = Exported {
-            rows: Vec::new(alloc),
-            brought: Vec::new(alloc),
+    fn insert(&mut self, key: Key, module: &ModuleName, span: Span) -> Result<(), NoMemory> {
+        let origin = Origin {
+            module: module.clone()?,
+            span,
         };
-        for (key, origin) in names {
-            if let Some(entity) = entity(key.area, &key.name)? {
-                exported.rows.push(ExportRow {
-                    entity,
-                    module: origin.module,
-                })?;
-                exported.brought.push(origin.span)?;
-            }
+        let _before = self.names.insert(key, origin)?;
+        Ok(())
+    }
+}
+
+/// An exported name that two modules declare.
+fn export_conflict(
+    alloc: Global,
+    name: &Text,
+    one: &ModuleName,
+    other: &ModuleName,
+    span: Span,
+) -> Stop {
+    match ascending(alloc, one, other) {
+        Ok(modules) => conflict(alloc, Code::ExportConflict, name, &modules, span),
+        Err(_) => Stop::NoMemory,
+    }
+}
+
+/// The exported names as rows, with the place that brings each.
+fn into_rows(alloc: Global, names: BTreeMap<Key, Origin>) -> Result<Exported, NoMemory> {
+    let mut exported = Exported {
+        rows: Vec::new(alloc),
+        brought: Vec::new(alloc),
+    };
+    for (key, origin) in names {
+        exported.add(&key, origin)?;
+    }
+    Ok(exported)
+}
+
+impl Exported {
+    fn add(&mut self, key: &Key, origin: Origin) -> Result<(), NoMemory> {
+        let Origin { module, span } = origin;
+        if let Some(entity) = entity(key.area, &key.name)? {
+            self.rows.push(ExportRow { entity, module })?;
+            self.brought.push(span)?;
         }
-        Ok(exported)
+        Ok(())
     }
 }
 

@@ -6,7 +6,7 @@
 ghost use Rattle.std.specs.Prelude.{◌≡◌, IfOk};
 ghost use Rattle.psc_imports.specs.Lists as spec;
 
-use crate::world::{Given, Interface, World};
+use crate::world::{Given, Interface, World, true_name};
 use psc_ast::{Ctors, ImportList, ImportTree, ModuleAt, Ref, UpperAt};
 use psc_error::Code;
 use psc_externs::Externs;
@@ -78,22 +78,46 @@ pub fn import_all(
     let mut imported = Imported::new(alloc);
     for import in imports {
         world.open(env, &import.module.name)?;
-        let rows = match world.interface(&import.module.name) {
-            Some(interface) => rows_of(alloc, world, interface, &import.list)?,
-            None => Vec::new(alloc),
-        };
-        bring(
-            scope,
-            class_of(&import.list),
-            qualifier_of(&import.alias)?,
-            &rows,
-        )?;
-        imported.add(import, rows)?;
+        import_one(alloc, import, world, scope, &mut imported)?;
     }
-    if let Some(interface) = world.interface(world.prim()) {
-        bring(scope, Class::Prim, None, &interface.rows)?;
+    match bring_prim(world, scope) {
+        Ok(()) => Ok(imported),
+        Err(error) => Err(Stop::from(error)),
     }
-    Ok(imported)
+}
+
+/// Brings the names of `Prim` into scope.
+fn bring_prim(world: &World, scope: &mut Scope) -> Result<(), NoMemory> {
+    match world.interface(world.prim()) {
+        Some(interface) => bring(scope, Class::Prim, &None, &interface.rows),
+        None => Ok(()),
+    }
+}
+
+/// Brings the names of an import into scope, and notes them.
+fn import_one(
+    alloc: Global,
+    import: &ImportTree,
+    world: &World,
+    scope: &mut Scope,
+    imported: &mut Imported,
+) -> Result<(), Stop> {
+    let rows = imported_rows(alloc, import, world)?;
+    bring_import(scope, import, &rows)?;
+    imported.add(import, rows)?;
+    Ok(())
+}
+
+fn imported_rows(alloc: Global, import: &ImportTree, world: &World) -> Result<Vec<Given>, Stop> {
+    match world.interface(&import.module.name) {
+        Some(interface) => rows_of(alloc, world, interface, &import.list),
+        None => Ok(Vec::new(alloc)),
+    }
+}
+
+fn bring_import(scope: &mut Scope, import: &ImportTree, rows: &[Given]) -> Result<(), NoMemory> {
+    let qualifier = qualifier_of(&import.alias)?;
+    bring(scope, class_of(&import.list), &qualifier, rows)
 }
 
 /// The class of the candidates that an import gives.
@@ -119,11 +143,11 @@ fn qualifier_of(alias: &Option<ModuleAt>) -> Result<Option<ModuleName>, NoMemory
 fn bring(
     scope: &mut Scope,
     class: Class,
-    qualifier: Option<ModuleName>,
+    qualifier: &Option<ModuleName>,
     rows: &[Given],
 ) -> Result<(), NoMemory> {
     for row in rows {
-        let key = Key::new(row.area, &row.name, &qualifier)?;
+        let key = Key::new(row.area, &row.name, qualifier)?;
         scope.add(class, key, row.module.clone()?)?;
     }
     Ok(())
@@ -156,18 +180,28 @@ fn copies(alloc: Global, rows: &[Given]) -> Result<Vec<Given>, Stop> {
 
 /// The rows whose names are not among those of a list.
 fn others(alloc: Global, rows: &[Given], hidden: &[Given]) -> Result<Vec<Given>, Stop> {
-    let mut names = BTreeSet::new(alloc);
-    for row in hidden {
-        let _new = names.insert(Key::plain(row.area, &row.name)?)?;
-    }
+    let names = names_of(alloc, hidden)?;
     let mut left = Vec::new(alloc);
     for row in rows {
-        let name = Key::plain(row.area, &row.name)?;
-        if !names.contains(&name) {
+        if !is_named(&names, row)? {
             left.push(row.copy()?)?;
         }
     }
     Ok(left)
+}
+
+fn names_of(alloc: Global, rows: &[Given]) -> Result<BTreeSet<Key>, NoMemory> {
+    let mut names = BTreeSet::new(alloc);
+    for row in rows {
+        let _new = names.insert(Key::plain(row.area, &row.name)?)?;
+    }
+    Ok(names)
+}
+
+/// Whether the name of a row is among others.
+fn is_named(names: &BTreeSet<Key>, row: &Given) -> Result<bool, NoMemory> {
+    let name = Key::plain(row.area, &row.name)?;
+    Ok(names.contains(&name))
 }
 
 /// The rows that references name.
@@ -181,10 +215,10 @@ fn listed(
         alloc,
         taken: Vec::new(alloc),
     };
-    for reference in refs {
-        taker.take(world, interface, reference)?;
+    match taker.take_all(world, interface, refs) {
+        Ok(()) => Ok(taker.taken),
+        Err(stop) => Err(stop),
     }
-    Ok(taker.taken)
 }
 
 #[derive(Drop)]
@@ -194,6 +228,13 @@ struct Taker {
 }
 
 impl Taker {
+    fn take_all(&mut self, world: &World, interface: &Interface, refs: &[Ref]) -> Result<(), Stop> {
+        for reference in refs {
+            self.take(world, interface, reference)?;
+        }
+        Ok(())
+    }
+
     fn take(&mut self, world: &World, interface: &Interface, reference: &Ref) -> Result<(), Stop> {
         match reference {
             Ref::Value { name } => self.take_name(interface, Area::Value, &name.name.0, name.span),
@@ -250,19 +291,28 @@ impl Taker {
         let mut types = Vec::new(self.alloc);
         for place in interface.named(Area::XType, &name.name)? {
             if let Some(row) = interface.rows.get(*place) {
-                if world.is_class(row)? == classes {
-                    types.push(Qualified {
-                        module: Some(row.module.clone()?),
-                        name: row.name.clone()?,
-                    })?;
-                    self.taken.push(row.copy()?)?;
-                }
+                self.take_type(world, row, classes, &mut types)?;
             }
         }
         if types.is_empty() {
             return Err(wrong_name(self.alloc, Code::UnknownImport, &name.name, name.span));
         }
         Ok(types)
+    }
+
+    /// Takes a row, if it is a class where one is wanted, or a type, and notes its true name.
+    fn take_type(
+        &mut self,
+        world: &World,
+        row: &Given,
+        classes: bool,
+        types: &mut Vec<Qualified>,
+    ) -> Result<(), NoMemory> {
+        if world.is_class(row)? == classes {
+            types.push(true_name(&row.name, &row.module)?)?;
+            self.taken.push(row.copy()?)?;
+        }
+        Ok(())
     }
 
     fn take_constructors(

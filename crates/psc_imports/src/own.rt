@@ -53,28 +53,18 @@ pub fn own_names(alloc: Global, decls: &[Decl]) -> Result<Own, Stop> {
         parents: BTreeMap::new(alloc),
         constructors: BTreeMap::new(alloc),
     };
-    // The first clause of the declaration that the next clause may go on.
-    let mut first: Option<&Clause> = None;
-    for (place, decl) in decls.iter().enumerate() {
-        match decl {
-            Decl::Clause(clause) => {
-                let is_more = match first {
-                    Some(first) => goes_on(first, clause),
-                    None => false,
-                };
-                if !is_more {
-                    own.declare(Area::Value, &clause.name.name.0, clause.span)?;
-                    first = Some(clause);
-                }
-                own.locals(clause)?;
-            }
-            _ => {
-                own.other(decl, decls.get(place.saturating_add(1)))?;
-                first = None;
-            }
-        }
+    match own.all(decls) {
+        Ok(()) => Ok(own),
+        Err(stop) => Err(stop),
     }
-    Ok(own)
+}
+
+/// Whether a clause goes on the declaration before it, if that is a value.
+fn is_more(first: Option<&Clause>, clause: &Clause) -> bool {
+    match first {
+        Some(first) => goes_on(first, clause),
+        None => false,
+    }
 }
 
 /// Whether a clause goes on the declaration that a first clause began: it has its name, and that one has arguments.
@@ -104,6 +94,27 @@ fn is_type(next: Option<&Decl>, of: KindOf, name: &Text) -> bool {
 }
 
 impl Own {
+    fn all(&mut self, decls: &[Decl]) -> Result<(), Stop> {
+        // The first clause of the declaration that the next clause may go on.
+        let mut first: Option<&Clause> = None;
+        for (place, decl) in decls.iter().enumerate() {
+            match decl {
+                Decl::Clause(clause) => {
+                    if !is_more(first, clause) {
+                        self.declare(Area::Value, &clause.name.name.0, clause.span)?;
+                        first = Some(clause);
+                    }
+                    self.locals(clause)?;
+                }
+                _ => {
+                    self.other(decl, decls.get(place.saturating_add(1)))?;
+                    first = None;
+                }
+            }
+        }
+        Ok(())
+    }
+
     /// A declaration that is no clause.
     fn other(&mut self, decl: &Decl, next: Option<&Decl>) -> Result<(), Stop> {
         match decl {
@@ -164,17 +175,25 @@ impl Own {
 
     fn data(&mut self, data: &DataDecl) -> Result<(), Stop> {
         self.declare(Area::XType, &data.name.name, data.span)?;
-        let mut constructors = Vec::new(self.alloc);
-        for ctor in data.ctors.as_slice() {
-            self.declare(Area::Constructor, &ctor.name.name, ctor.span)?;
-            let _before = self
-                .parents
-                .insert(ctor.name.name.clone()?, data.name.name.clone()?)?;
-            constructors.push(ctor.name.name.clone()?)?;
-        }
+        let constructors = self.data_constructors(data)?;
         let _before = self
             .constructors
             .insert(data.name.name.clone()?, constructors)?;
+        Ok(())
+    }
+
+    fn data_constructors(&mut self, data: &DataDecl) -> Result<Vec<Text>, Stop> {
+        let mut constructors = Vec::new(self.alloc);
+        for ctor in data.ctors.as_slice() {
+            self.declare(Area::Constructor, &ctor.name.name, ctor.span)?;
+            self.add_parent(&ctor.name.name, &data.name.name)?;
+            constructors.push(ctor.name.name.clone()?)?;
+        }
+        Ok(constructors)
+    }
+
+    fn add_parent(&mut self, constructor: &Text, x_type: &Text) -> Result<(), NoMemory> {
+        let _before = self.parents.insert(constructor.clone()?, x_type.clone()?)?;
         Ok(())
     }
 

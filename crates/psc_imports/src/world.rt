@@ -56,10 +56,10 @@ impl Interface {
     /// The rows of a name.
     pub fn named(&self, area: Area, name: &Text) -> Result<&[usize], NoMemory> {
         let key = Key::plain(area, name)?;
-        Ok(match self.places.get(&key) {
-            Some(places) => places.as_slice(),
-            None => &[],
-        })
+        match self.places.get(&key) {
+            Some(places) => Ok(places.as_slice()),
+            None => Ok(&[]),
+        }
     }
 
     /// The rows of a type's exported constructors.
@@ -120,6 +120,26 @@ fn true_key(area: Area, name: &Text, module: &ModuleName) -> Result<Key, NoMemor
     })
 }
 
+/// Whether the true name of a module's name is among others.
+fn is_among(name: &Text, module: &ModuleName, others: &[Qualified]) -> Result<bool, NoMemory> {
+    let name = true_name(name, module)?;
+    for other in others {
+        if other.same(&name) {
+            return Ok(true);
+        }
+    }
+    Ok(false)
+}
+
+/// The name that a row exports.
+fn given_by(row: &ExportRow) -> Result<Given, NoMemory> {
+    Ok(Given {
+        area: Area::of(row.entity.space()),
+        name: row.entity.text().clone()?,
+        module: row.module.clone()?,
+    })
+}
+
 /// The types of `Prim`, its kinds among them.
 const PRIM_TYPES: [&str; 11] = [
     "Array",
@@ -157,28 +177,59 @@ impl World {
             parents: BTreeMap::new(alloc),
             classes: BTreeSet::new(alloc),
         };
-        for (place, externs) in env.iter().enumerate() {
-            let _before = world.places.insert(externs.module.clone()?, place)?;
+        match world.fill(env) {
+            Ok(()) => Ok(world),
+            Err(error) => Err(error),
         }
-        world.add_prim()?;
-        Ok(world)
+    }
+
+    /// Notes where each module stands, and what `Prim` exports.
+    fn fill(&mut self, env: &[Externs]) -> Result<(), NoMemory> {
+        for (place, externs) in env.iter().enumerate() {
+            let _before = self.places.insert(externs.module.clone()?, place)?;
+        }
+        self.add_prim()
     }
 
     fn add_prim(&mut self) -> Result<(), NoMemory> {
         let prim = self.prim.clone()?;
-        let mut interface = Interface::new(self.alloc);
-        for name in PRIM_TYPES {
-            let row = self.prim_row(name)?;
-            self.declare(Area::XType, &row.name, &prim)?;
-            interface.add(self.alloc, row)?;
-        }
-        let class = self.prim_row(PRIM_CLASS)?;
-        self.declare(Area::XType, &class.name, &prim)?;
-        self.declare_class(&class.name, &prim)?;
-        interface.add(self.alloc, class)?;
+        let interface = self.prim_interface(&prim)?;
         let _before = self.interfaces.insert(prim.clone()?, interface)?;
         let _new = self.learned.insert(prim)?;
         Ok(())
+    }
+
+    fn prim_interface(&mut self, prim: &ModuleName) -> Result<Interface, NoMemory> {
+        let mut interface = Interface::new(self.alloc);
+        for name in PRIM_TYPES {
+            self.add_prim_type(prim, name, &mut interface)?;
+        }
+        match self.add_prim_class(prim, &mut interface) {
+            Ok(()) => Ok(interface),
+            Err(error) => Err(error),
+        }
+    }
+
+    fn add_prim_type(
+        &mut self,
+        prim: &ModuleName,
+        name: &str,
+        interface: &mut Interface,
+    ) -> Result<(), NoMemory> {
+        let row = self.prim_row(name)?;
+        self.declare(Area::XType, &row.name, prim)?;
+        interface.add(self.alloc, row)
+    }
+
+    fn add_prim_class(
+        &mut self,
+        prim: &ModuleName,
+        interface: &mut Interface,
+    ) -> Result<(), NoMemory> {
+        let row = self.prim_row(PRIM_CLASS)?;
+        self.declare(Area::XType, &row.name, prim)?;
+        self.declare_class(&row.name, prim)?;
+        interface.add(self.alloc, row)
     }
 
     fn prim_row(&self, name: &str) -> Result<Given, NoMemory> {
@@ -194,30 +245,40 @@ impl World {
         if self.interfaces.contains_key(module) {
             return Ok(());
         }
-        let interface = match self.externs_of(env, module) {
-            Some(externs) => self.exported(env, externs.exports.as_slice())?,
-            None => Interface::new(self.alloc),
-        };
+        let interface = self.interface_of(env, module)?;
         let _before = self.interfaces.insert(module.clone()?, interface)?;
         Ok(())
+    }
+
+    fn interface_of(
+        &mut self,
+        env: &[Externs],
+        module: &ModuleName,
+    ) -> Result<Interface, NoMemory> {
+        match self.externs_of(env, module) {
+            Some(externs) => self.exported(env, externs.exports.as_slice()),
+            None => Ok(Interface::new(self.alloc)),
+        }
     }
 
     /// The exported names that their modules declare.
     fn exported(&mut self, env: &[Externs], rows: &[ExportRow]) -> Result<Interface, NoMemory> {
         let mut interface = Interface::new(self.alloc);
         for row in rows {
-            let given = Given {
-                area: Area::of(row.entity.space()),
-                name: row.entity.text().clone()?,
-                module: row.module.clone()?,
-            };
-            self.learn(env, &given.module)?;
-            if self.has_row(&given)? {
-                self.add_constructor(&mut interface, &given)?;
-                interface.add(self.alloc, given)?;
-            }
+            self.learn(env, &row.module)?;
+            self.add_exported(&mut interface, row)?;
         }
         Ok(interface)
+    }
+
+    /// Adds an exported name, if its module declares it.
+    fn add_exported(&self, interface: &mut Interface, row: &ExportRow) -> Result<(), NoMemory> {
+        let given = given_by(row)?;
+        if !self.has_row(&given)? {
+            return Ok(());
+        }
+        self.add_constructor(interface, &given)?;
+        interface.add(self.alloc, given)
     }
 
     /// Whether the module that should declare a name does.
@@ -293,10 +354,14 @@ impl World {
     ) -> Result<(), NoMemory> {
         for row in rows {
             self.declare(Area::Constructor, row.name.text(), module)?;
-            let name = true_name(row.name.text(), module)?;
-            let parent = row.parent.text().clone()?;
-            let _before = self.parents.insert(name, parent)?;
+            self.add_parent(row, module)?;
         }
+        Ok(())
+    }
+
+    fn add_parent(&mut self, row: &ConstructorRow, module: &ModuleName) -> Result<(), NoMemory> {
+        let name = true_name(row.name.text(), module)?;
+        let _before = self.parents.insert(name, row.parent.text().clone()?)?;
         Ok(())
     }
 
@@ -330,11 +395,10 @@ impl World {
     /// Whether a row is a constructor of one of the types.
     pub fn is_constructor_of(&self, row: &Given, types: &[Qualified]) -> Result<bool, NoMemory> {
         let name = true_name(&row.name, &row.module)?;
-        let Some(parent) = self.parents.get(&name) else {
-            return Ok(false);
-        };
-        let made = true_name(parent, &row.module)?;
-        Ok(types.iter().any(|x_type| x_type.same(&made)))
+        match self.parents.get(&name) {
+            Some(parent) => is_among(parent, &row.module, types),
+            None => Ok(false),
+        }
     }
 
     /// The fixities of a module, if it is there.

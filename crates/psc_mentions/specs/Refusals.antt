@@ -1,5 +1,5 @@
 -- How a mention is refused.
-use Rattle.std.specs.Prelude.{◌≡◌, [], ◌∷◌, ⊤, ⊥}
+use Rattle.std.specs.Prelude.{[], ◌∷◌, ⊤}
 use Rattle.psc_ast.specs.declared.names.Mention.{Mention}
 use Rattle.psc_error.specs.declared.code.Code.TheVariants.{UnknownName, ScopeConflict}
 use Rattle.psc_scope.specs.declared.stop.Stop.{Stop}

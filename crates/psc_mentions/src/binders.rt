@@ -26,7 +26,7 @@ pub fn binder(
             span,
         } => {
             let name = state.global(Area::Constructor, name)?;
-            let arguments = binders(state, arguments.as_slice(), names)?;
+            let arguments = all_binders(state, arguments.as_slice(), names)?;
             Ok(BinderTree::Constructor {
                 name,
                 arguments,
@@ -38,7 +38,7 @@ pub fn binder(
             Ok(BinderTree::Variable { name: ident(name)? })
         }
         BinderTree::Array { items, span } => {
-            let items = binders(state, items.as_slice(), names)?;
+            let items = all_binders(state, items.as_slice(), names)?;
             Ok(BinderTree::Array { items, span: *span })
         }
         BinderTree::XRecord { fields, span } => {
@@ -80,7 +80,7 @@ fn boxed(
 }
 
 #[cycle(binders)]
-pub fn binders(
+pub fn all_binders(
     state: &mut Resolver,
     trees: &[BinderTree],
     names: &mut Vec<Text>,

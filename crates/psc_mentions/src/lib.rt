@@ -8,7 +8,7 @@ mod binders;
 mod resolver;
 mod types;
 
-pub use binders::{binder, binders, bound_names};
+pub use binders::{all_binders, binder, bound_names};
 pub use resolver::{Resolver, copy, ident};
 pub use types::{
     add_all_vars, bind_vars, constraint_list, front_vars, kind, label, signature, typ, typs,

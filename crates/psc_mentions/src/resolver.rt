@@ -1,9 +1,12 @@
 //! A mention's true name, and what is noted of it.
 
-ghost use Rattle.std.specs.Prelude.{◌≡◌, IfOk, IfErr};
-ghost use Rattle.psc_scope.specs.Lookup as lookup;
+ghost use Rattle.std.specs.Prelude.{◌≡◌, [], ◌∷◌, ◌++◌, Some, IfOk, IfErr, OnOk};
+ghost use Rattle.psc_error.specs.declared.code.Code.TheVariants.{UnknownName, ScopeConflict};
+ghost use Rattle.psc_scope.specs.Names as names;
+ghost use Rattle.psc_scope.specs.Problems as problems;
 ghost use Rattle.psc_scope.specs.declared.scope.Found.TheVariants.{One};
-ghost use Rattle.psc_mentions.specs.Refusals as spec;
+ghost use Rattle.psc_mentions.specs.Mentions as spec;
+ghost use Rattle.psc_mentions.specs.Refusals as refusals;
 
 use psc_ast::{IdentAt, Mention};
 use psc_error::Code;
@@ -44,48 +47,94 @@ impl Resolver {
     ///
     /// Wrong with UnknownName where it names nothing, and with ScopeConflict where it names two things.
     fn module_of(&self, area: Area, mention: &Mention) -> Result<ModuleName, Stop>
-        ensures declared { IfOk result (λ declarer. lookup.found self.now.scope (lookup.key area mention.now.name.name mention.now.name.«module») ≡ One declarer) }
-        ensures refused { IfErr result (λ stop. spec.Refuses (lookup.found self.now.scope (lookup.key area mention.now.name.name mention.now.name.«module»)) mention.now stop) }
+        ensures declared { IfOk result (λ declarer. spec.meant self.now.scope area mention.now ≡ One declarer) }
+        ensures refused { IfErr result (λ stop. refusals.Refuses (spec.meant self.now.scope area mention.now) mention.now stop) }
     {
         match self
             .scope
-            .find(area, &mention.name.name, &mention.name.module)?
+            .find(area, &mention.name.name, &mention.name.module)
         {
-            Found::One(module) => Ok(module),
-            Found::Nothing => {
-                let name = written(self.alloc, &mention.name)?;
-                Err(wrong_name(self.alloc, Code::UnknownName, &name, mention.span))
-            }
-            Found::Several(modules) => {
-                let name = written(self.alloc, &mention.name)?;
-                Err(conflict(
-                    self.alloc,
-                    Code::ScopeConflict,
-                    &name,
-                    modules.as_slice(),
-                    mention.span,
-                ))
-            }
+            Ok(Found::One(module)) => Ok(module),
+            Ok(Found::Nothing) => Err(self.unknown(mention)),
+            Ok(Found::Several(modules)) => Err(self.conflict(mention, modules.as_slice())),
+            Err(error) => Err(Stop::from(error)),
+        }
+    }
+
+    /// A mention of a name that stands for nothing.
+    fn unknown(&self, mention: &Mention) -> Stop
+        ensures { problems.Says result UnknownName mention.now.span (names.written mention.now.name ∷ []) }
+    {
+        match written(self.alloc, &mention.name) {
+            Ok(name) => wrong_name(self.alloc, Code::UnknownName, &name, mention.span),
+            Err(_) => Stop::NoMemory,
+        }
+    }
+
+    /// A mention of a name that stands for what several modules declare.
+    fn conflict(&self, mention: &Mention, modules: &[ModuleName]) -> Stop
+        ensures { problems.Says result ScopeConflict mention.now.span (names.written mention.now.name ∷ modules.now) }
+    {
+        match written(self.alloc, &mention.name) {
+            Ok(name) => conflict(
+                self.alloc,
+                Code::ScopeConflict,
+                &name,
+                modules,
+                mention.span,
+            ),
+            Err(_) => Stop::NoMemory,
         }
     }
 
     /// A mention of what some module declares.
-    pub fn global(&mut self, area: Area, mention: &Mention) -> Result<Mention, Stop> {
-        let module = self.module_of(area, mention)?;
-        if let Some(entity) = entity(area, &mention.name.name)? {
-            self.uses.push(UseRow {
-                module: module.clone()?,
-                entity,
-                span: mention.span,
-            })?;
-        }
-        Ok(Mention {
-            name: Qualified {
-                module: Some(module),
-                name: mention.name.name.clone()?,
+    pub fn global(&mut self, area: Area, mention: &Mention) -> Result<Mention, Stop>
+        ensures scope { self.new.scope ≡ self.old.scope }
+        ensures named { IfOk result (λ found. Some found ≡ spec.true_mention (spec.meant self.old.scope area mention.now) mention.now) }
+        ensures noted { OnOk result (self.new.uses.items ≡ self.old.uses.items ++ spec.noted (spec.meant self.old.scope area mention.now) area mention.now) }
+        ensures refused { IfErr result (λ stop. refusals.Refuses (spec.meant self.old.scope area mention.now) mention.now stop) }
+    {
+        match self.module_of(area, mention) {
+            Ok(module) => match self.declared(area, mention, module) {
+                Ok(found) => Ok(found),
+                Err(error) => Err(Stop::from(error)),
             },
-            span: mention.span,
-        })
+            Err(stop) => Err(stop),
+        }
+    }
+
+    /// A mention of what a module declares, which is noted.
+    fn declared(
+        &mut self,
+        area: Area,
+        mention: &Mention,
+        declarer: ModuleName,
+    ) -> Result<Mention, NoMemory>
+        ensures scope { self.new.scope ≡ self.old.scope }
+        ensures named { IfOk result (λ found. found ≡ spec.with_module declarer mention.now) }
+        ensures noted { OnOk result (self.new.uses.items ≡ self.old.uses.items ++ spec.row_of (names.entity area mention.now.name.name) declarer mention.now) }
+    {
+        self.note(area, mention, &declarer)?;
+        with_module(mention, declarer)
+    }
+
+    /// Notes a mention of what a module declares.
+    fn note(&mut self, area: Area, mention: &Mention, declarer: &ModuleName) -> Result<(), NoMemory>
+        ensures scope { self.new.scope ≡ self.old.scope }
+        ensures noted { OnOk result (self.new.uses.items ≡ self.old.uses.items ++ spec.row_of (names.entity area mention.now.name.name) declarer.now mention.now) }
+    {
+        match entity(area, &mention.name.name)? {
+            Some(entity) => {
+                let module = declarer.clone()?;
+                self.uses.push(UseRow {
+                    module,
+                    entity,
+                    span: mention.span,
+                })?;
+                Ok(())
+            }
+            None => Ok(()),
+        }
     }
 
     fn is_local(&self, mention: &Mention) -> bool {
@@ -131,33 +180,54 @@ impl Resolver {
             return Ok(mention);
         }
         let module = self.module_of(Area::Value, &mention)?;
-        let Mention { name, span } = mention;
-        Ok(Mention {
-            name: Qualified {
-                module: Some(module),
-                name: name.name,
-            },
-            span,
-        })
+        Ok(with_module(&mention, module)?)
     }
 
     /// A mention of a type variable.
-    pub fn type_var(&mut self, name: &IdentAt) -> Result<IdentAt, Stop> {
-        if self.type_vars.has(&name.name.0) {
-            return Ok(ident(name)?);
+    pub fn type_var(&mut self, name: &IdentAt) -> Result<IdentAt, Stop>
+        ensures same { IfOk result (λ copy. copy ≡ name.now) }
+        ensures refused { IfErr result (λ stop. problems.Says stop UnknownName name.now.span (name.now.name.0 ∷ [])) }
+    {
+        if !self.type_vars.has(&name.name.0) {
+            return Err(wrong_name(self.alloc, Code::UnknownName, &name.name.0, name.span));
         }
-        Err(wrong_name(self.alloc, Code::UnknownName, &name.name.0, name.span))
+        match ident(name) {
+            Ok(copy) => Ok(copy),
+            Err(error) => Err(Stop::from(error)),
+        }
     }
 }
 
-pub fn copy(mention: &Mention) -> Result<Mention, NoMemory> {
+/// A mention with the module that declares it.
+fn with_module(mention: &Mention, declarer: ModuleName) -> Result<Mention, NoMemory>
+    ensures { IfOk result (λ found. found ≡ spec.with_module declarer mention.now) }
+{
+    match mention.name.name.clone() {
+        Ok(name) => Ok(Mention {
+            name: Qualified {
+                module: Some(declarer),
+                name,
+            },
+            span: mention.span,
+        }),
+        Err(error) => Err(NoMemory::from(error)),
+    }
+}
+
+/// A copy of a mention.
+pub fn copy(mention: &Mention) -> Result<Mention, NoMemory>
+    ensures { IfOk result (λ copy. copy ≡ mention.now) }
+{
     Ok(Mention {
         name: mention.name.clone()?,
         span: mention.span,
     })
 }
 
-pub fn ident(name: &IdentAt) -> Result<IdentAt, NoMemory> {
+/// A copy of a name.
+pub fn ident(name: &IdentAt) -> Result<IdentAt, NoMemory>
+    ensures { IfOk result (λ copy. copy ≡ name.now) }
+{
     Ok(IdentAt {
         name: name.name.clone()?,
         span: name.span,

@@ -1,8 +1,14 @@
 //! Local bindings, right sides, alternatives and statements with true names.
 
-use crate::exprs::{boxed, expr, made_call};
-use psc_ast::{Alt, Bind, Branch, Clause, ExprTree, Guard, Locals, Mention, Rhs, Sig, Stmt, Test};
-use psc_mentions::{Resolver, binder, binders, bound_names, copy, front_vars, ident, signature};
+ghost use Rattle.std.specs.Prelude.{◌≡◌, ◌≢◌, [], Some};
+
+use crate::exprs::{boxed, boxed_to, boxed_under, expr, leave_boxed, made_call};
+use psc_ast::{
+    Alt, Bind, BinderTree, Branch, Clause, ExprTree, Guard, Locals, Mention, Rhs, Sig, Stmt, Test,
+};
+use psc_mentions::{
+    Resolver, all_binders, binder, bound_names, copy, front_vars, ident, signature,
+};
 use psc_scope::Stop;
 use psc_text::{NoMemory, Span, Text};
 use sqlite_items::{Boxed, Items};
@@ -12,19 +18,45 @@ use sqlite_items::{Boxed, Items};
 pub(crate) fn alternatives(state: &mut Resolver, list: &[Alt]) -> Result<Items<Alt>, Stop> {
     let mut done = Items::new(state.alloc);
     for alt in list {
-        let mut names = Vec::new(state.alloc);
-        let binders = binders(state, alt.binders.as_slice(), &mut names)?;
-        let mark = state.values.mark();
-        state.values.enter_all(&names)?;
-        let rhs = right_side(state, &alt.rhs)?;
-        state.values.leave(mark)?;
-        done.push(Alt {
+        done.push(alternative(state, alt)?)?;
+    }
+    Ok(done)
+}
+
+#[cycle(exprs)]
+fn alternative(state: &mut Resolver, alt: &Alt) -> Result<Alt, Stop> {
+    let mut names = Vec::new(state.alloc);
+    let binders = all_binders(state, alt.binders.as_slice(), &mut names)?;
+    match right_side_under(state, &alt.rhs, &names) {
+        Ok(rhs) => Ok(Alt {
             binders,
             rhs,
             span: alt.span,
-        })?;
+        }),
+        Err(stop) => Err(stop),
     }
-    Ok(done)
+}
+
+/// A right side in which names are bound.
+#[cycle(exprs)]
+fn right_side_under(state: &mut Resolver, rhs: &Rhs, names: &[Text]) -> Result<Rhs, Stop> {
+    let mark = state.values.mark();
+    state.values.enter_all(names)?;
+    let found = right_side(state, rhs);
+    match state.values.leave(mark) {
+        Ok(()) => found,
+        Err(error) => Err(Stop::from(error)),
+    }
+}
+
+/// A right side, behind which names are bound.
+#[cycle(exprs)]
+fn right_side_before(state: &mut Resolver, rhs: &Rhs, names: &[Text]) -> Result<Rhs, Stop> {
+    let found = right_side(state, rhs)?;
+    match state.values.enter_all(names) {
+        Ok(()) => Ok(found),
+        Err(error) => Err(Stop::from(error)),
+    }
 }
 
 #[cycle(exprs)]
@@ -39,17 +71,33 @@ fn right_side(state: &mut Resolver, rhs: &Rhs) -> Result<Rhs, Stop> {
 fn guard_list(state: &mut Resolver, guards: &[Guard]) -> Result<Items<Guard>, Stop> {
     let mut list = Items::new(state.alloc);
     for guard in guards {
-        let mark = state.values.mark();
-        let tests = test_list(state, guard.tests.as_slice())?;
-        let branch = branch_of(state, &guard.branch)?;
-        state.values.leave(mark)?;
-        list.push(Guard {
+        list.push(guard_of(state, guard)?)?;
+    }
+    Ok(list)
+}
+
+/// A guard. What its tests bind is left behind it.
+#[cycle(exprs)]
+fn guard_of(state: &mut Resolver, guard: &Guard) -> Result<Guard, Stop> {
+    let mark = state.values.mark();
+    let found = guard_parts(state, guard);
+    match state.values.leave(mark) {
+        Ok(()) => found,
+        Err(error) => Err(Stop::from(error)),
+    }
+}
+
+#[cycle(exprs)]
+fn guard_parts(state: &mut Resolver, guard: &Guard) -> Result<Guard, Stop> {
+    let tests = test_list(state, guard.tests.as_slice())?;
+    match branch_of(state, &guard.branch) {
+        Ok(branch) => Ok(Guard {
             tests,
             branch,
             span: guard.span,
-        })?;
+        }),
+        Err(stop) => Err(stop),
     }
-    Ok(list)
 }
 
 /// The tests of a guard. What one binds is bound behind it.
@@ -75,44 +123,98 @@ fn test_of(state: &mut Resolver, test: &Test) -> Result<Test, Stop> {
         } => {
             let mut names = Vec::new(state.alloc);
             let binder = binder(state, bound, &mut names)?;
-            let value = expr(state, value)?;
-            state.values.enter_all(&names)?;
-            Ok(Test::Binds {
-                binder,
-                value,
-                span: *span,
-            })
+            match value_before(state, value, &names) {
+                Ok(value) => Ok(Test::Binds {
+                    binder,
+                    value,
+                    span: *span,
+                }),
+                Err(stop) => Err(stop),
+            }
         }
+    }
+}
+
+/// A value, behind which names are bound.
+#[cycle(exprs)]
+fn value_before(state: &mut Resolver, value: &ExprTree, names: &[Text]) -> Result<ExprTree, Stop> {
+    let found = expr(state, value)?;
+    match state.values.enter_all(names) {
+        Ok(()) => Ok(found),
+        Err(error) => Err(Stop::from(error)),
+    }
+}
+
+/// A call of a name that is not written on a value, behind which names are bound.
+#[cycle(exprs)]
+fn call_before(
+    state: &mut Resolver,
+    value: &ExprTree,
+    function: Mention,
+    names: &[Text],
+    span: Span,
+) -> Result<ExprTree, Stop> {
+    match value_before(state, value, names) {
+        Ok(found) => Ok(made_call(state.alloc, function, found, span)?),
+        Err(stop) => Err(stop),
     }
 }
 
 /// An expression with its `where`, whose names are bound in both.
 #[cycle(exprs)]
 fn branch_of(state: &mut Resolver, branch: &Branch) -> Result<Branch, Stop> {
-    let Some(locals) = &branch.locals else {
-        return Ok(Branch {
+    match &branch.locals {
+        None => Ok(Branch {
             body: boxed(state, &branch.body)?,
             locals: None,
-        });
-    };
-    let mark = state.values.mark();
-    let mut names = Vec::new(state.alloc);
-    add_names(locals.binds.as_slice(), &mut names)?;
-    state.values.enter_all(&names)?;
-    let body = boxed(state, &branch.body)?;
-    state.values.leave(mark)?;
-    let binds = bind_segments(state, locals.binds.as_slice())?;
-    state.values.leave(mark)?;
-    Ok(Branch {
-        body,
-        locals: Some(Locals {
+        }),
+        Some(locals) => {
+            let names = names_of(state, locals.binds.as_slice())?;
+            let body = boxed_under(state, branch.body.get(), &names)?;
+            match locals_of(state, locals) {
+                Ok(found) => Ok(Branch {
+                    body,
+                    locals: Some(found),
+                }),
+                Err(stop) => Err(stop),
+            }
+        }
+    }
+}
+
+#[cycle(exprs)]
+fn locals_of(state: &mut Resolver, locals: &Locals) -> Result<Locals, Stop> {
+    match binds_under(state, locals.binds.as_slice(), &[]) {
+        Ok(binds) => Ok(Locals {
             binds,
             span: locals.span,
         }),
-    })
+        Err(stop) => Err(stop),
+    }
+}
+
+/// Local bindings in which names are bound. Their own names are left behind them.
+#[cycle(exprs)]
+fn binds_under(state: &mut Resolver, binds: &[Bind], names: &[Text]) -> Result<Items<Bind>, Stop> {
+    let mark = state.values.mark();
+    state.values.enter_all(names)?;
+    let found = bind_segments(state, binds);
+    match state.values.leave(mark) {
+        Ok(()) => found,
+        Err(error) => Err(Stop::from(error)),
+    }
 }
 
 /// The names that local bindings bind.
+fn names_of(state: &Resolver, binds: &[Bind]) -> Result<Vec<Text>, NoMemory> {
+    let mut names = Vec::new(state.alloc);
+    match add_names(binds, &mut names) {
+        Ok(()) => Ok(names),
+        Err(error) => Err(error),
+    }
+}
+
+/// Adds the names that local bindings bind.
 fn add_names(binds: &[Bind], names: &mut Vec<Text>) -> Result<(), NoMemory> {
     for bind in binds {
         match bind {
@@ -169,7 +271,10 @@ impl Signed {
     }
 
     /// The variables for a clause.
-    pub(crate) fn vars_of(&self, clause: &Clause) -> &[Text] {
+    pub(crate) fn vars_of(&self, clause: &Clause) -> &[Text]
+        ensures signed { self.now.name ≡ Some clause.now.name.name.0 → result.now ≡ self.now.vars.items }
+        ensures others { self.now.name ≢ Some clause.now.name.name.0 → result.now ≡ [] }
+    {
         match &self.name {
             Some(name) if name.same(&clause.name.name.0) => self.vars.as_slice(),
             _ => &[],
@@ -208,13 +313,14 @@ fn bind_of(state: &mut Resolver, bind: &Bind, signed: &Signed) -> Result<Bind, S
         } => {
             let mut names = Vec::new(state.alloc);
             let binder = binder(state, bound, &mut names)?;
-            let rhs = right_side(state, rhs)?;
-            state.values.enter_all(&names)?;
-            Ok(Bind::Value {
-                binder,
-                rhs,
-                span: *span,
-            })
+            match right_side_before(state, rhs, &names) {
+                Ok(rhs) => Ok(Bind::Value {
+                    binder,
+                    rhs,
+                    span: *span,
+                }),
+                Err(stop) => Err(stop),
+            }
         }
     }
 }
@@ -226,21 +332,29 @@ pub(crate) fn clause(
     written: &Clause,
     type_vars: &[Text],
 ) -> Result<Clause, Stop> {
-    let types = state.type_vars.mark();
+    let mark = state.type_vars.mark();
     state.type_vars.enter_all(type_vars)?;
+    let found = clause_parts(state, written);
+    match state.type_vars.leave(mark) {
+        Ok(()) => found,
+        Err(error) => Err(Stop::from(error)),
+    }
+}
+
+#[cycle(exprs)]
+fn clause_parts(state: &mut Resolver, written: &Clause) -> Result<Clause, Stop> {
+    let name = ident(&written.name)?;
     let mut names = Vec::new(state.alloc);
-    let arguments = binders(state, written.arguments.as_slice(), &mut names)?;
-    let mark = state.values.mark();
-    state.values.enter_all(&names)?;
-    let rhs = right_side(state, &written.rhs)?;
-    state.values.leave(mark)?;
-    state.type_vars.leave(types)?;
-    Ok(Clause {
-        name: ident(&written.name)?,
-        arguments,
-        rhs,
-        span: written.span,
-    })
+    let arguments = all_binders(state, written.arguments.as_slice(), &mut names)?;
+    match right_side_under(state, &written.rhs, &names) {
+        Ok(rhs) => Ok(Clause {
+            name,
+            arguments,
+            rhs,
+            span: written.span,
+        }),
+        Err(stop) => Err(stop),
+    }
 }
 
 /// The statements of a `do`. The value of each but the last is a call of `bind` or `discard`.
@@ -259,25 +373,12 @@ pub(crate) fn do_statements(
 
 #[cycle(exprs)]
 fn do_statement(state: &mut Resolver, statement: &Stmt, is_last: bool) -> Result<Stmt, Stop> {
-    let alloc = state.alloc;
     match statement {
         Stmt::Binds {
-            binder: bound,
+            binder,
             value,
             span,
-        } => {
-            let function = state.made("bind", *span)?;
-            let mut names = Vec::new(alloc);
-            let binder = binder(state, bound, &mut names)?;
-            let value = expr(state, value)?;
-            state.values.enter_all(&names)?;
-            let value = made_call(alloc, function, value, *span)?;
-            Ok(Stmt::Binds {
-                binder,
-                value,
-                span: *span,
-            })
-        }
+        } => do_binding(state, value, binder, *span),
         Stmt::Let { binds, span } => {
             let binds = bind_segments(state, binds.as_slice())?;
             Ok(Stmt::Let { binds, span: *span })
@@ -290,11 +391,31 @@ fn do_statement(state: &mut Resolver, statement: &Stmt, is_last: bool) -> Result
             }
             let span = value.span();
             let function = state.made("discard", span)?;
-            let value = expr(state, value)?;
             Ok(Stmt::Run {
-                value: made_call(alloc, function, value, span)?,
+                value: call_before(state, value, function, &[], span)?,
             })
         }
+    }
+}
+
+/// A statement that binds names.
+#[cycle(exprs)]
+fn do_binding(
+    state: &mut Resolver,
+    value: &ExprTree,
+    bound: &BinderTree,
+    span: Span,
+) -> Result<Stmt, Stop> {
+    let function = state.made("bind", span)?;
+    let mut names = Vec::new(state.alloc);
+    let binder = binder(state, bound, &mut names)?;
+    match call_before(state, value, function, &names, span) {
+        Ok(value) => Ok(Stmt::Binds {
+            binder,
+            value,
+            span,
+        }),
+        Err(stop) => Err(stop),
     }
 }
 
@@ -377,21 +498,47 @@ pub(crate) fn ado(state: &mut Resolver, tree: &ExprTree) -> Result<ExprTree, Sto
             let mut names = Vec::new(alloc);
             step_names(statements.as_slice(), &mut names)?;
             let statements = ado_items(state, statements.as_slice(), &mut functions, &mut names)?;
-            let mark = state.values.mark();
-            state.values.enter_all(&names)?;
-            let result = expr(state, result.get())?;
-            state.values.leave(mark)?;
-            let result = match functions.of_result {
-                Some(function) => made_call(alloc, function, result, *span)?,
-                None => result,
-            };
+            let AdoNames { of_result, .. } = functions;
+            let result = ado_result(state, result.get(), &names, of_result, *span)?;
             Ok(ExprTree::Ado {
                 statements,
-                result: Boxed::new(alloc, result)?,
+                result,
                 span: *span,
             })
         }
         _ => Ok(ExprTree::Hole { span: tree.span() }),
+    }
+}
+
+/// The result of an `ado`, in which the names are bound. It is an argument of `pure`, where there is no step.
+#[cycle(exprs)]
+fn ado_result(
+    state: &mut Resolver,
+    tree: &ExprTree,
+    names: &[Text],
+    function: Option<Mention>,
+    span: Span,
+) -> Result<Boxed<ExprTree>, Stop> {
+    let mark = state.values.mark();
+    state.values.enter_all(names)?;
+    match function {
+        Some(function) => called_to(state, tree, function, mark, span),
+        None => boxed_to(state, tree, mark),
+    }
+}
+
+/// A call of a name that is not written, with names left behind it.
+#[cycle(exprs)]
+fn called_to(
+    state: &mut Resolver,
+    tree: &ExprTree,
+    function: Mention,
+    mark: usize,
+    span: Span,
+) -> Result<Boxed<ExprTree>, Stop> {
+    match call_before(state, tree, function, &[], span) {
+        Ok(call) => leave_boxed(state, call, mark),
+        Err(stop) => Err(stop),
     }
 }
 
@@ -425,26 +572,27 @@ fn ado_item(
         } => {
             let mut own = Vec::new(state.alloc);
             let binder = binder(state, bound, &mut own)?;
-            let value = ado_value(state, value, functions)?;
-            Ok(Stmt::Binds {
-                binder,
-                value,
-                span: *span,
-            })
+            match ado_value(state, value, functions) {
+                Ok(value) => Ok(Stmt::Binds {
+                    binder,
+                    value,
+                    span: *span,
+                }),
+                Err(stop) => Err(stop),
+            }
         }
         Stmt::Run { value } => Ok(Stmt::Run {
             value: ado_value(state, value, functions)?,
         }),
         Stmt::Let { binds, span } => {
-            let mark = state.values.mark();
-            state.values.enter_all(names)?;
-            let resolved = bind_segments(state, binds.as_slice())?;
-            state.values.leave(mark)?;
-            add_names(binds.as_slice(), names)?;
-            Ok(Stmt::Let {
-                binds: resolved,
-                span: *span,
-            })
+            let found = binds_under(state, binds.as_slice(), names)?;
+            match add_names(binds.as_slice(), names) {
+                Ok(()) => Ok(Stmt::Let {
+                    binds: found,
+                    span: *span,
+                }),
+                Err(error) => Err(Stop::from(error)),
+            }
         }
     }
 }
@@ -455,10 +603,8 @@ fn ado_value(
     value: &ExprTree,
     functions: &mut AdoNames,
 ) -> Result<ExprTree, Stop> {
-    let span = value.span();
-    let value = expr(state, value)?;
     match functions.next()? {
-        Some(function) => Ok(made_call(state.alloc, function, value, span)?),
-        None => Ok(value),
+        Some(function) => call_before(state, value, function, &[], value.span()),
+        None => expr(state, value),
     }
 }

@@ -2,15 +2,16 @@
 
 use crate::binds::{Signed, clause};
 use psc_ast::{
-    ClassDecl, Clause, Ctor, DataDecl, Decl, Dep, FixityDecl, IdentAt, InstanceDecl, OpAt, Sig,
-    SynonymDecl, UpperAt,
+    ClassDecl, Clause, Constr, Ctor, DataDecl, Decl, Dep, FixityDecl, IdentAt, InstanceDecl,
+    KindOf, KindTree, Mention, OpAt, Sig, SynonymDecl, TypeTree, TypeVar, UpperAt,
 };
 use psc_mentions::{
     Resolver, add_all_vars, bind_vars, constraint_list, ident, kind, signature, typ, typs,
 };
 use psc_scope::{Area, Stop};
-use psc_text::NoMemory;
+use psc_text::{NoMemory, Span};
 use sqlite_items::Items;
+use std::alloc::Global;
 
 /// All declarations with true names.
 ///
@@ -32,7 +33,13 @@ fn decl_of(state: &mut Resolver, decl: &Decl, signed: &Signed) -> Result<Decl, S
         Decl::XData(data) => Ok(Decl::XData(data_of(state, data)?)),
         Decl::Newtype(data) => Ok(Decl::Newtype(data_of(state, data)?)),
         Decl::Synonym(synonym) => Ok(Decl::Synonym(synonym_of(state, synonym)?)),
-        Decl::KindSig { .. } | Decl::ForeignData { .. } => kind_decl(state, decl),
+        Decl::KindSig {
+            of,
+            name,
+            kind,
+            span,
+        } => Ok(kind_sig(state.alloc, *of, name, kind, *span)?),
+        Decl::ForeignData { name, kind, span } => Ok(foreign_data(state.alloc, name, kind, *span)?),
         Decl::ForeignValue { sig, span } => Ok(Decl::ForeignValue {
             sig: signature(state, sig)?,
             span: *span,
@@ -52,92 +59,157 @@ fn upper(name: &UpperAt) -> Result<UpperAt, NoMemory> {
     })
 }
 
-/// A declaration that has a kind and mentions nothing.
-fn kind_decl(state: &mut Resolver, decl: &Decl) -> Result<Decl, Stop> {
-    match decl {
-        Decl::KindSig {
+fn kind_sig(
+    alloc: Global,
+    of: KindOf,
+    name: &UpperAt,
+    written: &KindTree,
+    span: Span,
+) -> Result<Decl, NoMemory> {
+    let name = upper(name)?;
+    match kind(alloc, written) {
+        Ok(kind) => Ok(Decl::KindSig {
             of,
             name,
-            kind: written,
+            kind,
             span,
-        } => Ok(Decl::KindSig {
-            of: *of,
-            name: upper(name)?,
-            kind: kind(state.alloc, written)?,
-            span: *span,
         }),
-        Decl::ForeignData {
-            name,
-            kind: written,
-            span,
-        } => Ok(Decl::ForeignData {
-            name: upper(name)?,
-            kind: kind(state.alloc, written)?,
-            span: *span,
-        }),
-        _ => Err(Stop::NoMemory),
+        Err(error) => Err(error),
+    }
+}
+
+fn foreign_data(
+    alloc: Global,
+    name: &UpperAt,
+    written: &KindTree,
+    span: Span,
+) -> Result<Decl, NoMemory> {
+    let name = upper(name)?;
+    match kind(alloc, written) {
+        Ok(kind) => Ok(Decl::ForeignData { name, kind, span }),
+        Err(error) => Err(error),
     }
 }
 
 fn data_of(state: &mut Resolver, data: &DataDecl) -> Result<DataDecl, Stop> {
+    let name = upper(&data.name)?;
     let mark = state.type_vars.mark();
     let vars = bind_vars(state, data.vars.as_slice())?;
-    let mut ctors = Items::new(state.alloc);
-    for ctor in data.ctors.as_slice() {
-        let fields = typs(state, ctor.fields.as_slice())?;
-        ctors.push(Ctor {
-            name: upper(&ctor.name)?,
+    let ctors = ctors_of(state, data.ctors.as_slice())?;
+    match state.type_vars.leave(mark) {
+        Ok(()) => Ok(DataDecl {
+            name,
+            vars,
+            ctors,
+            span: data.span,
+        }),
+        Err(error) => Err(Stop::from(error)),
+    }
+}
+
+fn ctors_of(state: &mut Resolver, ctors: &[Ctor]) -> Result<Items<Ctor>, Stop> {
+    let mut list = Items::new(state.alloc);
+    for ctor in ctors {
+        list.push(ctor_of(state, ctor)?)?;
+    }
+    Ok(list)
+}
+
+fn ctor_of(state: &mut Resolver, ctor: &Ctor) -> Result<Ctor, Stop> {
+    let name = upper(&ctor.name)?;
+    match typs(state, ctor.fields.as_slice()) {
+        Ok(fields) => Ok(Ctor {
+            name,
             fields,
             span: ctor.span,
-        })?;
+        }),
+        Err(stop) => Err(stop),
     }
-    state.type_vars.leave(mark)?;
-    Ok(DataDecl {
-        name: upper(&data.name)?,
-        vars,
-        ctors,
-        span: data.span,
-    })
 }
 
 fn synonym_of(state: &mut Resolver, synonym: &SynonymDecl) -> Result<SynonymDecl, Stop> {
+    let name = upper(&synonym.name)?;
     let mark = state.type_vars.mark();
     let vars = bind_vars(state, synonym.vars.as_slice())?;
     let body = typ(state, &synonym.body)?;
-    state.type_vars.leave(mark)?;
-    Ok(SynonymDecl {
-        name: upper(&synonym.name)?,
-        vars,
-        body,
-        span: synonym.span,
-    })
+    match state.type_vars.leave(mark) {
+        Ok(()) => Ok(SynonymDecl {
+            name,
+            vars,
+            body,
+            span: synonym.span,
+        }),
+        Err(error) => Err(Stop::from(error)),
+    }
+}
+
+/// What stands before the members of a class.
+#[derive(Drop)]
+struct ClassHead {
+    vars: Items<TypeVar>,
+    supers: Items<Constr>,
+    deps: Items<Dep>,
 }
 
 /// A class. Its variables are bound in its superclasses, its dependencies and its members.
 fn class_of(state: &mut Resolver, class: &ClassDecl) -> Result<ClassDecl, Stop> {
     let mark = state.type_vars.mark();
+    let head = class_head(state, class)?;
+    let members = members_of(state, class.members.as_slice())?;
+    match state.type_vars.leave(mark) {
+        Ok(()) => Ok(class_decl(class, head, members)?),
+        Err(error) => Err(Stop::from(error)),
+    }
+}
+
+fn class_head(state: &mut Resolver, class: &ClassDecl) -> Result<ClassHead, Stop> {
     let vars = bind_vars(state, class.vars.as_slice())?;
     let supers = constraint_list(state, class.supers.as_slice())?;
-    let mut deps = Items::new(state.alloc);
-    for dep in class.deps.as_slice() {
-        let from = determined(state, dep.from.as_slice())?;
-        let to = determined(state, dep.to.as_slice())?;
-        deps.push(Dep {
+    match deps_of(state, class.deps.as_slice()) {
+        Ok(deps) => Ok(ClassHead { vars, supers, deps }),
+        Err(stop) => Err(stop),
+    }
+}
+
+fn class_decl(
+    class: &ClassDecl,
+    head: ClassHead,
+    members: Items<Sig>,
+) -> Result<ClassDecl, NoMemory> {
+    match upper(&class.name) {
+        Ok(name) => {
+            let ClassHead { vars, supers, deps } = head;
+            Ok(ClassDecl {
+                supers,
+                name,
+                vars,
+                deps,
+                members,
+                span: class.span,
+            })
+        }
+        Err(error) => Err(error),
+    }
+}
+
+fn deps_of(state: &mut Resolver, deps: &[Dep]) -> Result<Items<Dep>, Stop> {
+    let mut list = Items::new(state.alloc);
+    for dep in deps {
+        list.push(dep_of(state, dep)?)?;
+    }
+    Ok(list)
+}
+
+fn dep_of(state: &mut Resolver, dep: &Dep) -> Result<Dep, Stop> {
+    let from = determined(state, dep.from.as_slice())?;
+    match determined(state, dep.to.as_slice()) {
+        Ok(to) => Ok(Dep {
             from,
             to,
             span: dep.span,
-        })?;
+        }),
+        Err(stop) => Err(stop),
     }
-    let members = members_of(state, class.members.as_slice())?;
-    state.type_vars.leave(mark)?;
-    Ok(ClassDecl {
-        supers,
-        name: upper(&class.name)?,
-        vars,
-        deps,
-        members,
-        span: class.span,
-    })
 }
 
 fn determined(state: &mut Resolver, names: &[IdentAt]) -> Result<Items<IdentAt>, Stop> {
@@ -156,30 +228,77 @@ fn members_of(state: &mut Resolver, members: &[Sig]) -> Result<Items<Sig>, Stop>
     Ok(list)
 }
 
+/// What stands before the members of an instance.
+#[derive(Drop)]
+struct InstanceHead {
+    context: Items<Constr>,
+    class: Mention,
+    arguments: Items<TypeTree>,
+}
+
 /// An instance. The variables of its head are bound in its context and in its members.
 fn instance_of(state: &mut Resolver, instance: &InstanceDecl) -> Result<InstanceDecl, Stop> {
+    let mark = state.type_vars.mark();
+    enter_head(state, instance)?;
+    let head = instance_head(state, instance)?;
+    let members = clauses(state, instance.members.as_slice())?;
+    match state.type_vars.leave(mark) {
+        Ok(()) => Ok(instance_decl(instance, head, members)?),
+        Err(error) => Err(Stop::from(error)),
+    }
+}
+
+/// Binds the variables of an instance's head.
+fn enter_head(state: &mut Resolver, instance: &InstanceDecl) -> Result<(), NoMemory> {
     let mut vars = Vec::new(state.alloc);
     add_all_vars(instance.arguments.as_slice(), &mut vars)?;
-    let mark = state.type_vars.mark();
-    state.type_vars.enter_all(&vars)?;
+    state.type_vars.enter_all(&vars)
+}
+
+fn instance_head(state: &mut Resolver, instance: &InstanceDecl) -> Result<InstanceHead, Stop> {
     let context = constraint_list(state, instance.context.as_slice())?;
     let class = state.global(Area::XType, &instance.class)?;
-    let arguments = typs(state, instance.arguments.as_slice())?;
-    let members = clauses(state, instance.members.as_slice())?;
-    state.type_vars.leave(mark)?;
-    let name = match &instance.name {
-        Some(name) => Some(ident(name)?),
-        None => None,
-    };
-    Ok(InstanceDecl {
-        goes_on: instance.goes_on,
-        name,
-        context,
-        class,
-        arguments,
-        members,
-        span: instance.span,
-    })
+    match typs(state, instance.arguments.as_slice()) {
+        Ok(arguments) => Ok(InstanceHead {
+            context,
+            class,
+            arguments,
+        }),
+        Err(stop) => Err(stop),
+    }
+}
+
+fn instance_decl(
+    instance: &InstanceDecl,
+    head: InstanceHead,
+    members: Items<Clause>,
+) -> Result<InstanceDecl, NoMemory> {
+    match written_name(&instance.name) {
+        Ok(name) => {
+            let InstanceHead {
+                context,
+                class,
+                arguments,
+            } = head;
+            Ok(InstanceDecl {
+                goes_on: instance.goes_on,
+                name,
+                context,
+                class,
+                arguments,
+                members,
+                span: instance.span,
+            })
+        }
+        Err(error) => Err(error),
+    }
+}
+
+fn written_name(name: &Option<IdentAt>) -> Result<Option<IdentAt>, NoMemory> {
+    match name {
+        Some(name) => Ok(Some(ident(name)?)),
+        None => Ok(None),
+    }
 }
 
 fn clauses(state: &mut Resolver, members: &[Clause]) -> Result<Items<Clause>, Stop> {
@@ -191,20 +310,31 @@ fn clauses(state: &mut Resolver, members: &[Clause]) -> Result<Items<Clause>, St
 }
 
 fn fixity_of(state: &mut Resolver, fixity: &FixityDecl) -> Result<FixityDecl, Stop> {
-    let target = if fixity.of_types {
-        state.global(Area::XType, &fixity.target)?
-    } else {
-        state.value_or_constructor(&fixity.target)?
-    };
-    Ok(FixityDecl {
-        side: fixity.side,
-        power: fixity.power,
-        of_types: fixity.of_types,
-        target,
-        op: OpAt {
-            op: fixity.op.op.clone()?,
-            span: fixity.op.span,
-        },
-        span: fixity.span,
+    let op = operator(&fixity.op)?;
+    match target_of(state, fixity) {
+        Ok(target) => Ok(FixityDecl {
+            side: fixity.side,
+            power: fixity.power,
+            of_types: fixity.of_types,
+            target,
+            op,
+            span: fixity.span,
+        }),
+        Err(stop) => Err(stop),
+    }
+}
+
+fn operator(op: &OpAt) -> Result<OpAt, NoMemory> {
+    Ok(OpAt {
+        op: op.op.clone()?,
+        span: op.span,
     })
+}
+
+fn target_of(state: &mut Resolver, fixity: &FixityDecl) -> Result<Mention, Stop> {
+    if fixity.of_types {
+        state.global(Area::XType, &fixity.target)
+    } else {
+        state.value_or_constructor(&fixity.target)
+    }
 }

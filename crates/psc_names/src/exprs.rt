@@ -4,11 +4,14 @@
 //! value one of `bind` or `discard`, and the steps and the result of an `ado` those of `map`, `apply` and `pure`. These calls
 //! stand in the resolved tree, as calls of one argument.
 
+ghost use Rattle.std.specs.Prelude.{◌≡◌, [], ◌∷◌, IfOk};
+ghost use Rattle.psc_names.specs.Names as spec;
+
 use crate::binds::{alternatives, bind_segments, do_statements};
-use psc_ast::{ChainStep, ExprTree, Field, Mention, TickStep, Update};
-use psc_mentions::{Resolver, binders, label, typ};
+use psc_ast::{ChainStep, ExprTree, Field, LabelAt, Mention, TickStep, Update};
+use psc_mentions::{Resolver, all_binders, label, typ};
 use psc_scope::{Area, Stop};
-use psc_text::{NoMemory, Qualified, Span};
+use psc_text::{NoMemory, Qualified, Span, Text};
 use sqlite_items::{Boxed, Items};
 use std::alloc::Global;
 
@@ -40,9 +43,55 @@ pub(crate) fn expr(state: &mut Resolver, tree: &ExprTree) -> Result<ExprTree, St
 
 #[cycle(exprs)]
 pub(crate) fn boxed(state: &mut Resolver, tree: &Boxed<ExprTree>) -> Result<Boxed<ExprTree>, Stop> {
-    let alloc = state.alloc;
-    let tree = expr(state, tree.get())?;
-    Ok(Boxed::new(alloc, tree)?)
+    match expr(state, tree.get()) {
+        Ok(found) => on_heap(state.alloc, found),
+        Err(stop) => Err(stop),
+    }
+}
+
+/// An expression in which names are bound.
+#[cycle(exprs)]
+pub(crate) fn boxed_under(
+    state: &mut Resolver,
+    tree: &ExprTree,
+    names: &[Text],
+) -> Result<Boxed<ExprTree>, Stop> {
+    let mark = state.values.mark();
+    state.values.enter_all(names)?;
+    boxed_to(state, tree, mark)
+}
+
+/// An expression, behind which all names are left that were bound since the mark.
+#[cycle(exprs)]
+pub(crate) fn boxed_to(
+    state: &mut Resolver,
+    tree: &ExprTree,
+    mark: usize,
+) -> Result<Boxed<ExprTree>, Stop> {
+    match expr(state, tree) {
+        Ok(found) => leave_boxed(state, found, mark),
+        Err(stop) => Err(stop),
+    }
+}
+
+/// Leaves all names that were bound since the mark.
+pub(crate) fn leave_boxed(
+    state: &mut Resolver,
+    tree: ExprTree,
+    mark: usize,
+) -> Result<Boxed<ExprTree>, Stop> {
+    match state.values.leave(mark) {
+        Ok(()) => on_heap(state.alloc, tree),
+        Err(error) => Err(Stop::from(error)),
+    }
+}
+
+/// An expression on the heap.
+fn on_heap(alloc: Global, tree: ExprTree) -> Result<Boxed<ExprTree>, Stop> {
+    match Boxed::new(alloc, tree) {
+        Ok(found) => Ok(found),
+        Err(error) => Err(Stop::from(error)),
+    }
 }
 
 #[cycle(exprs)]
@@ -103,15 +152,50 @@ pub(crate) fn made_call(
     function: Mention,
     argument: ExprTree,
     span: Span,
-) -> Result<ExprTree, NoMemory> {
-    let function = Boxed::new(alloc, ExprTree::Variable { name: function })?;
+) -> Result<ExprTree, NoMemory>
+    ensures { IfOk result (λ call. call ≡ spec.made_call function argument span) }
+{
+    match one_argument(alloc, argument) {
+        Ok(arguments) => call_of(alloc, function, arguments, span),
+        Err(error) => Err(error),
+    }
+}
+
+fn one_argument(alloc: Global, argument: ExprTree) -> Result<Items<ExprTree>, NoMemory>
+    ensures { IfOk result (λ list. list ≡ argument ∷ []) }
+{
     let mut arguments = Items::new(alloc);
-    arguments.push(argument)?;
-    Ok(ExprTree::Call {
-        function,
-        arguments,
-        span,
-    })
+    match arguments.push(argument) {
+        Ok(()) => Ok(arguments),
+        Err(error) => Err(NoMemory::from(error)),
+    }
+}
+
+fn variable(alloc: Global, name: Mention) -> Result<Boxed<ExprTree>, NoMemory>
+    ensures { IfOk result (λ tree. tree ≡ spec.variable name) }
+{
+    match Boxed::new(alloc, ExprTree::Variable { name }) {
+        Ok(tree) => Ok(tree),
+        Err(error) => Err(NoMemory::from(error)),
+    }
+}
+
+fn call_of(
+    alloc: Global,
+    function: Mention,
+    arguments: Items<ExprTree>,
+    span: Span,
+) -> Result<ExprTree, NoMemory>
+    ensures { IfOk result (λ call. call ≡ spec.call function arguments span) }
+{
+    match variable(alloc, function) {
+        Ok(function) => Ok(ExprTree::Call {
+            function,
+            arguments,
+            span,
+        }),
+        Err(error) => Err(error),
+    }
 }
 
 #[cycle(exprs)]
@@ -200,8 +284,10 @@ fn applied(state: &mut Resolver, tree: &ExprTree) -> Result<ExprTree, Stop> {
             span,
         } => {
             let function = state.made("negate", *minus)?;
-            let operand = expr(state, operand.get())?;
-            Ok(made_call(alloc, function, operand, *span)?)
+            match expr(state, operand.get()) {
+                Ok(operand) => Ok(made_call(state.alloc, function, operand, *span)?),
+                Err(stop) => Err(stop),
+            }
         }
         ExprTree::Call {
             function,
@@ -229,11 +315,8 @@ fn form(state: &mut Resolver, tree: &ExprTree) -> Result<ExprTree, Stop> {
             span,
         } => {
             let mut names = Vec::new(state.alloc);
-            let binders = binders(state, list.as_slice(), &mut names)?;
-            let mark = state.values.mark();
-            state.values.enter_all(&names)?;
-            let body = boxed(state, body)?;
-            state.values.leave(mark)?;
+            let binders = all_binders(state, list.as_slice(), &mut names)?;
+            let body = boxed_under(state, body.get(), &names)?;
             Ok(ExprTree::Lambda {
                 binders,
                 body,
@@ -279,8 +362,7 @@ fn block(state: &mut Resolver, tree: &ExprTree) -> Result<ExprTree, Stop> {
         ExprTree::Let { binds, body, span } => {
             let mark = state.values.mark();
             let binds = bind_segments(state, binds.as_slice())?;
-            let body = boxed(state, body)?;
-            state.values.leave(mark)?;
+            let body = boxed_to(state, body.get(), mark)?;
             Ok(ExprTree::Let {
                 binds,
                 body,
@@ -289,12 +371,14 @@ fn block(state: &mut Resolver, tree: &ExprTree) -> Result<ExprTree, Stop> {
         }
         ExprTree::Do { statements, span } => {
             let mark = state.values.mark();
-            let statements = do_statements(state, statements.as_slice())?;
-            state.values.leave(mark)?;
-            Ok(ExprTree::Do {
-                statements,
-                span: *span,
-            })
+            let found = do_statements(state, statements.as_slice())?;
+            match state.values.leave(mark) {
+                Ok(()) => Ok(ExprTree::Do {
+                    statements: found,
+                    span: *span,
+                }),
+                Err(error) => Err(Stop::from(error)),
+            }
         }
         ExprTree::Ado { .. } => crate::binds::ado(state, tree),
         _ => Ok(hole(tree.span())),
@@ -310,13 +394,10 @@ fn part(state: &mut Resolver, tree: &ExprTree) -> Result<ExprTree, Stop> {
             span,
         } => {
             let subject = boxed(state, subject)?;
-            let mut list = Items::new(state.alloc);
-            for one in labels.as_slice() {
-                list.push(label(one)?)?;
-            }
+            let labels = label_list(state.alloc, labels.as_slice())?;
             Ok(ExprTree::Access {
                 subject,
-                labels: list,
+                labels,
                 span: *span,
             })
         }
@@ -339,6 +420,14 @@ fn part(state: &mut Resolver, tree: &ExprTree) -> Result<ExprTree, Stop> {
         }),
         _ => Ok(hole(tree.span())),
     }
+}
+
+fn label_list(alloc: Global, labels: &[LabelAt]) -> Result<Items<LabelAt>, NoMemory> {
+    let mut list = Items::new(alloc);
+    for one in labels {
+        list.push(label(one)?)?;
+    }
+    Ok(list)
 }
 
 #[cycle(exprs)]
@@ -370,31 +459,44 @@ fn brackets(state: &mut Resolver, tree: &ExprTree) -> Result<ExprTree, Stop> {
     }
 }
 
-/// The fields of a record. A label alone mentions the value of its name.
 #[cycle(exprs)]
 fn field_list(state: &mut Resolver, fields: &[Field]) -> Result<Items<Field>, Stop> {
-    let alloc = state.alloc;
-    let mut list = Items::new(alloc);
+    let mut list = Items::new(state.alloc);
     for field in fields {
-        let label = label(&field.label)?;
-        let value = match &field.value {
-            Some(value) => boxed(state, value)?,
-            None => {
-                let mention = Mention {
-                    name: Qualified {
-                        module: None,
-                        name: field.label.label.0.clone()?,
-                    },
-                    span: field.label.span,
-                };
-                let name = state.value(&mention)?;
-                Boxed::new(alloc, ExprTree::Variable { name })?
-            }
-        };
-        list.push(Field {
-            label,
-            value: Some(value),
-        })?;
+        list.push(field_of(state, field)?)?;
     }
     Ok(list)
+}
+
+#[cycle(exprs)]
+fn field_of(state: &mut Resolver, field: &Field) -> Result<Field, Stop> {
+    let label = label(&field.label)?;
+    match field_value(state, field) {
+        Ok(value) => Ok(Field {
+            label,
+            value: Some(value),
+        }),
+        Err(stop) => Err(stop),
+    }
+}
+
+/// The value of a field. A label alone mentions the value of its name.
+#[cycle(exprs)]
+fn field_value(state: &mut Resolver, field: &Field) -> Result<Boxed<ExprTree>, Stop> {
+    match &field.value {
+        Some(value) => boxed(state, value),
+        None => named_value(state, &field.label),
+    }
+}
+
+fn named_value(state: &mut Resolver, label: &LabelAt) -> Result<Boxed<ExprTree>, Stop> {
+    let mention = Mention {
+        name: Qualified {
+            module: None,
+            name: label.label.0.clone()?,
+        },
+        span: label.span,
+    };
+    let name = state.value(&mention)?;
+    Ok(variable(state.alloc, name)?)
 }

@@ -1,10 +1,13 @@
 //! The phases of a module's names: imports, own declarations, export names, mentions.
 
+ghost use Rattle.std.specs.Prelude.{◌≡◌, Some, IfOk, IfErr};
+ghost use Rattle.psc_names.specs.Names as spec;
+
 use crate::decls::all_decls;
 use psc_ast::{Decl, Fixities, Fixity, FixityDecl, Module, Side};
 use psc_error::PsError;
 use psc_externs::{Assoc, ExportRow, Externs, FixityRow, OpSpace, UseRow};
-use psc_imports::{Exported, World, export_all, import_all, own_names};
+use psc_imports::{Exported, Imported, World, export_all, import_all, own_names};
 use psc_items::SharedItems;
 use psc_mentions::Resolver;
 use psc_scope::{Area, Key, Scope, Stop, error_of};
@@ -47,7 +50,9 @@ pub fn resolve(
     alloc: Global,
     module: Module,
     env: &[Externs],
-) -> Result<Result<Resolved, PsError>, NoMemory> {
+) -> Result<Result<Resolved, PsError>, NoMemory>
+    ensures { IfOk result (λ found. IfErr found (λ error. error.«module» ≡ Some «module».name.name)) }
+{
     match find_all(alloc, &module, env) {
         Ok(found) => Ok(Ok(joined(alloc, module, found)?)),
         Err(Stop::NoMemory) => Err(NoMemory),
@@ -65,14 +70,36 @@ fn find_all(alloc: Global, module: &Module, env: &[Externs]) -> Result<Finds, St
         &mut world,
         &mut scope,
     )?;
+    let exported = own_phases(alloc, module, &imported, &mut scope)?;
+    mention_phase(alloc, module, env, &world, scope, exported)
+}
+
+/// The phases of own declarations and of export names.
+fn own_phases(
+    alloc: Global,
+    module: &Module,
+    imported: &Imported,
+    scope: &mut Scope,
+) -> Result<Exported, Stop> {
     let own = own_names(alloc, module.decls.as_slice())?;
-    own.bring(&module.name.name, &mut scope)?;
-    let exported = export_all(alloc, module, &own, &imported)?;
+    own.bring(&module.name.name, scope)?;
+    export_all(alloc, module, &own, imported)
+}
+
+/// The phase of mentions.
+fn mention_phase(
+    alloc: Global,
+    module: &Module,
+    env: &[Externs],
+    world: &World,
+    scope: Scope,
+    exported: Exported,
+) -> Result<Finds, Stop> {
     let mut resolver = Resolver::new(alloc, scope);
     let decls = all_decls(&mut resolver, module.decls.as_slice())?;
     let fixities = fixities_of(
         alloc,
-        &world,
+        world,
         env,
         &module.name.name,
         decls.as_slice(),
@@ -136,13 +163,28 @@ fn fixities_of(
             add_own(&mut rows, own, fixity)?;
         }
     }
+    match add_all_foreign(&mut rows, alloc, world, env, own, operators) {
+        Ok(()) => Ok(rows),
+        Err(error) => Err(error),
+    }
+}
+
+/// Adds the mentioned operators of other modules.
+fn add_all_foreign(
+    rows: &mut Vec<Fixity>,
+    alloc: Global,
+    world: &World,
+    env: &[Externs],
+    own: &ModuleName,
+    operators: &BTreeSet<Key>,
+) -> Result<(), NoMemory> {
     let modules = modules_of(alloc, own, operators)?;
     for module in modules.iter() {
         for row in world.fixities(env, module) {
-            add_foreign(&mut rows, module, row, operators)?;
+            add_foreign(rows, module, row, operators)?;
         }
     }
-    Ok(rows)
+    Ok(())
 }
 
 /// The other modules whose operators are mentioned.
@@ -163,22 +205,30 @@ fn modules_of(
 }
 
 /// The true name of an operator.
-fn true_name(module: &ModuleName, op: &Text) -> Result<Qualified, NoMemory> {
+fn true_name(declarer: &ModuleName, op: &Text) -> Result<Qualified, NoMemory>
+    ensures { IfOk result (λ name. name ≡ spec.true_name declarer.now op.now) }
+{
     Ok(Qualified {
-        module: Some(module.clone()?),
+        module: Some(declarer.clone()?),
         name: op.clone()?,
     })
 }
 
 fn add_own(rows: &mut Vec<Fixity>, own: &ModuleName, fixity: &FixityDecl) -> Result<(), NoMemory> {
-    rows.push(Fixity {
-        op: true_name(own, &fixity.op.op.0)?,
+    let row = own_fixity(own, fixity)?;
+    rows.push(row)?;
+    Ok(())
+}
+
+fn own_fixity(own: &ModuleName, fixity: &FixityDecl) -> Result<Fixity, NoMemory> {
+    let op = true_name(own, &fixity.op.op.0)?;
+    Ok(Fixity {
+        op,
         target: fixity.target.name.clone()?,
         side: fixity.side,
         power: fixity.power,
         of_types: fixity.of_types,
-    })?;
-    Ok(())
+    })
 }
 
 fn add_foreign(
@@ -187,33 +237,42 @@ fn add_foreign(
     row: &FixityRow,
     operators: &BTreeSet<Key>,
 ) -> Result<(), NoMemory> {
-    let of_types = matches!(row.space, OpSpace::TypeOp);
-    let area = if of_types {
-        Area::TypeOp
-    } else {
-        Area::ValueOp
-    };
-    let key = Key {
-        area,
-        name: row.op.0.clone()?,
-        qualifier: Some(module.clone()?),
-    };
-    if operators.contains(&key) {
-        rows.push(Fixity {
-            op: true_name(module, &row.op.0)?,
-            target: Qualified {
-                module: Some(row.target.module.clone()?),
-                name: row.target.name.text().clone()?,
-            },
-            side: side_of(row.assoc),
-            power: row.precedence,
-            of_types,
-        })?;
+    if is_mentioned(module, row, operators)? {
+        let row = foreign_fixity(module, row)?;
+        rows.push(row)?;
     }
     Ok(())
 }
 
-fn side_of(assoc: Assoc) -> Side {
+/// Whether a module's operator is among those that are mentioned.
+fn is_mentioned(
+    module: &ModuleName,
+    row: &FixityRow,
+    operators: &BTreeSet<Key>,
+) -> Result<bool, NoMemory> {
+    let name = row.op.0.clone()?;
+    let key = Key {
+        area: Area::of_operator(row.space),
+        name,
+        qualifier: Some(module.clone()?),
+    };
+    Ok(operators.contains(&key))
+}
+
+fn foreign_fixity(module: &ModuleName, row: &FixityRow) -> Result<Fixity, NoMemory> {
+    let op = true_name(module, &row.op.0)?;
+    Ok(Fixity {
+        op,
+        target: true_name(&row.target.module, row.target.name.text())?,
+        side: side_of(row.assoc),
+        power: row.precedence,
+        of_types: matches!(row.space, OpSpace::TypeOp),
+    })
+}
+
+fn side_of(assoc: Assoc) -> Side
+    ensures { result ≡ spec.side_of assoc }
+{
     match assoc {
         Assoc::Infix => Side::Neither,
         Assoc::Infixl => Side::Left,

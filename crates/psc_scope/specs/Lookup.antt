@@ -1,5 +1,5 @@
 -- What a name stands for by a table of candidates.
-use Rattle.std.specs.Prelude.{ℕ, List, [], ◌∷◌, Option, Some, None}
+use Rattle.std.specs.Prelude.{ℕ, List, Option, Some, None}
 use Rattle.std.specs.declared.cmp.Ordering.{Ordering}
 use Rattle.std.specs.Ordering.{nat_cmp, ordering_then}
 use Rattle.std.specs.Option.{option_cmp}
@@ -22,9 +22,12 @@ area_place area.TypeOp = 2
 area_place area.Value = 3
 area_place area.ValueOp = 4
 
+abbrev pub area_cmp : Area → Area → Ordering
+area_cmp a b = nat_cmp (area_place a) (area_place b)
+
 -- names by their space, then by their bytes, then by the module before them
 abbrev pub key_cmp : Key → Key → Ordering
-key_cmp a b = ordering_then (nat_cmp (area_place a.area) (area_place b.area)) (ordering_then (slice_cmp nat_cmp a.name b.name) (option_cmp (slice_cmp nat_cmp) a.qualifier b.qualifier))
+key_cmp a b = ordering_then (area_cmp a.area b.area) (ordering_then (slice_cmp nat_cmp a.name b.name) (option_cmp (slice_cmp nat_cmp) a.qualifier b.qualifier))
 
 -- a name in its space, with the module before it
 abbrev pub key : Area → List ℕ → Option (List ℕ) → Key

@@ -1,7 +1,6 @@
 //! The name spaces, and names in them.
 
-ghost use Rattle.std.specs.Prelude.{◌≡◌, None, IfOk, IfSome};
-ghost use Rattle.psc_externs.specs.Entities as entities;
+ghost use Rattle.std.specs.Prelude.{◌≡◌, None, IfOk};
 ghost use Rattle.psc_scope.specs.Lookup as lookup;
 ghost use Rattle.psc_scope.specs.Names as spec;
 
@@ -79,16 +78,38 @@ impl Key {
 
 /// The name as interface files hold it. None where it cannot stand in one, which no name of a source is.
 pub fn entity(area: Area, name: &Text) -> Result<Option<Entity>, NoMemory>
-    ensures { IfOk result (λ made. IfSome made (λ it. (spec.area_of (entities.space_of it) ≡ area) × (entities.text_of it ≡ name.now))) }
+    ensures { IfOk result (λ made. made ≡ spec.entity area name.now) }
 {
     let text = name.clone()?;
+    Ok(entity_of(area, text))
+}
+
+fn entity_of(area: Area, text: Text) -> Option<Entity>
+    ensures { result ≡ spec.entity area text }
+{
     match area {
-        Area::TypeOp => Ok(Some(Entity::TypeOp(OpName(text)))),
-        Area::ValueOp => Ok(Some(Entity::ValueOp(OpName(text)))),
-        Area::Constructor => Ok(Name::new(text).map(Entity::Constructor)),
-        Area::XType => Ok(Name::new(text).map(Entity::XType)),
-        Area::Value => Ok(Name::new(text).map(Entity::Value)),
+        Area::TypeOp => Some(Entity::TypeOp(OpName(text))),
+        Area::ValueOp => Some(Entity::ValueOp(OpName(text))),
+        Area::Constructor => match plain_name(text) {
+            Some(name) => Some(Entity::Constructor(name)),
+            None => None,
+        },
+        Area::XType => match plain_name(text) {
+            Some(name) => Some(Entity::XType(name)),
+            None => None,
+        },
+        Area::Value => match plain_name(text) {
+            Some(name) => Some(Entity::Value(name)),
+            None => None,
+        },
     }
+}
+
+/// A text as a name that is no operator, where it is one.
+fn plain_name(text: Text) -> Option<Name>
+    ensures { result ≡ spec.plain_name text }
+{
+    Name::new(text)
 }
 
 /// A name as it is written, with its module and a dot before it, if it has one.

@@ -163,7 +163,14 @@ impl Scope {
         ensures { IfOk result (λ found. found ≡ lookup.found self.now (lookup.key area name.now qualifier.now)) }
     {
         let key = Key::new(area, name, qualifier)?;
-        match self.rows.get(&key) {
+        self.said_of(&key)
+    }
+
+    /// What the table says of a name.
+    fn said_of(&self, key: &Key) -> Result<Found, NoMemory>
+        ensures { IfOk result (λ found. found ≡ lookup.found self.now key.now) }
+    {
+        match self.rows.get(key) {
             Some(candidates) => candidates.found(self.alloc),
             None => Ok(Found::Nothing),
         }

@@ -2,6 +2,7 @@
 
 ghost use Rattle.std.specs.Prelude.{◌≡◌, [], ◌∷◌, Some, IfOk};
 ghost use Rattle.psc_scope.specs.Problems as spec;
+ghost use Rattle.psc_scope.specs.declared.stop.Stop.TheVariants as stops;
 
 use psc_error::{Code, PsError};
 use psc_items::SharedItems;
@@ -24,18 +25,24 @@ pub enum Stop {
 }
 
 impl From<NoMemory> for Stop {
+    ghost from_gives = { λ _ stop. stop ≡ stops.NoMemory };
+
     fn from(_error: NoMemory) -> Stop {
         Stop::NoMemory
     }
 }
 
 impl From<AllocError> for Stop {
+    ghost from_gives = { λ _ stop. stop ≡ stops.NoMemory };
+
     fn from(_error: AllocError) -> Stop {
         Stop::NoMemory
     }
 }
 
 impl<T: Drop> From<AllocFailed<T>> for Stop {
+    ghost from_gives = { λ _ stop. stop ≡ stops.NoMemory };
+
     fn from(_error: AllocFailed<T>) -> Stop {
         Stop::NoMemory
     }
