@@ -79,18 +79,36 @@ fn name(alloc: Global, module: &str, name: &str) -> Result<Qualified, NoMemory> 
     })
 }
 
+fn value_row(name: Option<Name>, x_type: Option<ExternType>) -> Option<ValueRow> {
+    Some(ValueRow {
+        name: name?,
+        x_type: x_type?,
+    })
+}
+
+/// One value of this type.
+fn one_value(alloc: Global, ty: Ty) -> Result<Option<SharedItems<ValueRow>>, NoMemory> {
+    let name = Name::new(Text::new(alloc, "x")?);
+    match value_row(name, ExternType::new(ty)) {
+        Some(row) => {
+            let mut rows = Vec::new(alloc);
+            rows.push(row)?;
+            Ok(Some(SharedItems::from_vec(alloc, rows)?))
+        }
+        None => Ok(None),
+    }
+}
+
+fn with_values(externs: Option<Externs>, values: Option<SharedItems<ValueRow>>) -> Option<Externs> {
+    let values = values?;
+    let externs = externs?;
+    Some(Externs { values, ..externs })
+}
+
 /// The interface file without rows, with one value of this type.
 fn with_value(alloc: Global, ty: Ty) -> Result<Option<Externs>, NoMemory> {
-    let (name, x_type) = (Name::new(Text::new(alloc, "x")?), ExternType::new(ty));
-    match (read(alloc, NONE.as_bytes())?, name, x_type) {
-        (Some(externs), Some(name), Some(x_type)) => {
-            let mut rows = Vec::new(alloc);
-            rows.push(ValueRow { name, x_type })?;
-            let values = SharedItems::from_vec(alloc, rows)?;
-            Ok(Some(Externs { values, ..externs }))
-        }
-        _ => Ok(None),
-    }
+    let values = one_value(alloc, ty)?;
+    Ok(with_values(read(alloc, NONE.as_bytes())?, values))
 }
 
 #[test]
@@ -104,14 +122,38 @@ fn a_type_is_written_as_its_words(rt: HostRuntime) -> Result<(), Fail> {
     Ok(())
 }
 
+fn may_stand(ty: Ty) -> bool {
+    ExternType::new(ty).is_some()
+}
+
+fn variable_may_stand(alloc: Global, text: &str) -> Result<bool, NoMemory> {
+    Ok(may_stand(Ty::Var(Ident(Text::new(alloc, text)?))))
+}
+
+fn constructor_may_stand(alloc: Global, module: &str, text: &str) -> Result<bool, NoMemory> {
+    Ok(may_stand(Ty::Con(name(alloc, module, text)?)))
+}
+
 #[test]
-fn what_no_interface_file_holds_is_refused(rt: HostRuntime) -> Result<(), Fail> {
-    let alloc = rt.alloc();
-    assert!(rt; ExternType::new(Ty::Unknown(0)).is_none());
-    assert!(rt; ExternType::new(Ty::Any(Kind::Star)).is_none());
-    assert!(rt; ExternType::new(Ty::Con(name(alloc, "", "Int")?)).is_none());
-    assert!(rt; ExternType::new(Ty::Var(Ident(Text::new(alloc, "a.b")?))).is_none());
-    assert!(rt; ExternType::new(Ty::Var(Ident(Text::new(alloc, "")?))).is_none());
-    assert!(rt; Name::new(Text::new(alloc, "a.b")?).is_none());
+fn unknowns_are_refused(rt: HostRuntime) -> Result<(), Fail> {
+    assert!(rt; !may_stand(Ty::Unknown(0)));
+    assert!(rt; !may_stand(Ty::Any(Kind::Star)));
+    assert!(rt; may_stand(Ty::RowNil));
+    Ok(())
+}
+
+#[test]
+fn variables_with_a_dot_or_without_a_name_are_refused(rt: HostRuntime) -> Result<(), Fail> {
+    assert!(rt; variable_may_stand(rt.alloc(), "a")?);
+    assert!(rt; !variable_may_stand(rt.alloc(), "a.b")?);
+    assert!(rt; !variable_may_stand(rt.alloc(), "")?);
+    Ok(())
+}
+
+#[test]
+fn names_without_a_module_are_refused(rt: HostRuntime) -> Result<(), Fail> {
+    assert!(rt; constructor_may_stand(rt.alloc(), "Prim", "Int")?);
+    assert!(rt; !constructor_may_stand(rt.alloc(), "", "Int")?);
+    assert!(rt; !constructor_may_stand(rt.alloc(), "Prim", "Int.Int")?);
     Ok(())
 }
