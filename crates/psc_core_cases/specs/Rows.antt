@@ -110,9 +110,13 @@ unfoldable pub any_binders : Span → List CoreExpr → List CoreBinder
 any_binders at [] = []
 any_binders at (e ∷ es) = any_binder at ∷ any_binders at es
 
+-- a subject with its name
+abbrev pub subject_bind : Span → ℕ → CoreExpr → CoreBind
+subject_bind at s e = bound at (subject_name s) e
+
 unfoldable pub subject_binds : Span → ℕ → List CoreExpr → List CoreBind
 subject_binds at s [] = []
-subject_binds at s (e ∷ es) = bound at (subject_name s) e ∷ subject_binds at (suc s) es
+subject_binds at s (e ∷ es) = subject_bind at s e ∷ subject_binds at (suc s) es
 
 abbrev pub with_subjects : Span → ℕ → List CoreExpr → CoreExpr → CoreExpr
 with_subjects at s es body = let_at at (subject_binds at s es) body

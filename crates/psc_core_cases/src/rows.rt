@@ -7,7 +7,9 @@
 ghost use Rattle.std.specs.Prelude.{◌≡◌, ◌+◌, ◌++◌, ◌∷◌, [], length, reverse, IfOk, map, true, false};
 ghost use Rattle.psc_core_cases.specs.Rows as spec;
 
-use crate::made::{any_binder, bound, boxed, forced, place_name, subject_name, thunk, truth, variable};
+use crate::made::{
+    any_binder, bound, boxed, forced, place_name, subject_name, thunk, truth, variable,
+};
 use crate::numbering::{Numbers, after, behind};
 use psc_core_tree::{
     Ann, CoreAlternative, CoreBind, CoreBinder, CoreExpr, CoreGuarded, CoreOutcome,
@@ -157,11 +159,7 @@ fn any_alternative(alloc: Global, at: Span, body: CoreExpr) -> Result<CoreAltern
 }
 
 /// An alternative of one binder.
-fn of_binder(
-    alloc: Global,
-    binder: CoreBinder,
-    body: CoreExpr,
-) -> Result<CoreAlternative, NoMemory>
+fn of_binder(alloc: Global, binder: CoreBinder, body: CoreExpr) -> Result<CoreAlternative, NoMemory>
     ensures { IfOk result (λ made. made ≡ spec.alternative (binder ∷ []) body) }
 {
     match one(alloc, binder) {
@@ -489,6 +487,37 @@ fn any_binders(
     Ok(made)
 }
 
+/// A subject with its name.
+fn subject_bind(
+    alloc: Global,
+    at: Span,
+    number: usize,
+    subject: CoreExpr,
+) -> Result<CoreBind, NoMemory>
+    ensures { IfOk result (λ bind. bind ≡ spec.subject_bind at number subject) }
+{
+    match subject_name(alloc, number) {
+        Ok(name) => Ok(bound(at, name, subject)),
+        Err(error) => Err(error),
+    }
+}
+
+/// Binds with that of one more subject behind them.
+fn with_subject(
+    alloc: Global,
+    at: Span,
+    number: usize,
+    before: Items<CoreBind>,
+    subject: CoreExpr,
+) -> Result<Items<CoreBind>, NoMemory>
+    ensures { IfOk result (λ binds. binds ≡ before ++ spec.subject_bind at number subject ∷ []) }
+{
+    match subject_bind(alloc, at, number, subject) {
+        Ok(bind) => with_last(before, bind),
+        Err(error) => Err(error),
+    }
+}
+
 #[tactic(auto, unfolding(crate::specs::Rows::subject_binds))]
 fn subject_binds(
     alloc: Global,
@@ -502,7 +531,7 @@ fn subject_binds(
     let mut made = Items::new(alloc);
     let mut number = first;
     while let Some(subject) = waiting.pop() {
-        made.push(bound(at, subject_name(alloc, number)?, subject))?;
+        made = with_subject(alloc, at, number, made, subject)?;
         number = behind(number, 1)?;
     }
     Ok(made)
