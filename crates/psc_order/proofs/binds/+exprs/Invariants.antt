@@ -126,4 +126,3 @@ decreases-do_block l = 64 * l.fuel + 3
 
 abbrev pub decreases-ado_block : goal.decreases-ado_block
 decreases-ado_block l = 64 * l.fuel + 3
-
