@@ -1,17 +1,15 @@
 //! Right sides, alternatives, local bindings and statements without chains.
 //!
-//! Each function has one step that may fail, so that its proof has few values to drop.
+//! A function has one or two steps that may fail and few values beside them, so that its proof has little to drop.
 
 use crate::binders::{binder, binder_list};
 use crate::exprs::{boxed, expr};
 use crate::state::{Bracketing, FUEL, in_order};
 use crate::types::sig;
-use psc_ast::{
-    Alt, Bind, BinderTree, Branch, Clause, ExprTree, Guard, IdentAt, Locals, Rhs, Stmt, Test,
-};
+use psc_ast::{Alt, Bind, Branch, Clause, Guard, Locals, Rhs, Stmt, Test};
 use psc_chain::{Size, levels};
-use psc_text::{NoMemory, Span};
-use sqlite_items::{Boxed, Items};
+use psc_text::NoMemory;
+use sqlite_items::Items;
 
 #[cycle(exprs)]
 pub(crate) fn alternatives(
@@ -25,24 +23,14 @@ pub(crate) fn alternatives(
     let mut all = Size::NONE;
     for next in list {
         let mut inside = Size::NONE;
-        add_alternative(state, next, fuel, &mut done, &mut inside)?;
+        match alternative(state, next, fuel, &mut inside) {
+            Ok(next) => done.push(next)?,
+            Err(error) => return Err(error),
+        }
         all = all.beside(inside);
     }
     *size = size.then(all.enclosed());
     Ok(done)
-}
-
-#[cycle(exprs)]
-fn add_alternative(
-    state: &mut Bracketing,
-    next: Alt,
-    fuel: u32,
-    done: &mut Items<Alt>,
-    size: &mut Size,
-) -> Result<(), NoMemory> {
-    let next = alternative(state, next, fuel, size)?;
-    done.push(next)?;
-    Ok(())
 }
 
 #[cycle(exprs)]
@@ -54,29 +42,16 @@ fn alternative(
 ) -> Result<Alt, NoMemory> {
     let Alt { binders, rhs, span } = next;
     match binder_list(state, binders, size) {
-        Ok(binders) => alternative_behind(state, binders, rhs, span, fuel, size),
-        Err(error) => Err(error),
-    }
-}
-
-/// An alternative whose binders are done.
-#[cycle(exprs)]
-fn alternative_behind(
-    state: &mut Bracketing,
-    binders: Items<BinderTree>,
-    rhs: Rhs,
-    span: Span,
-    fuel: u32,
-    size: &mut Size,
-) -> Result<Alt, NoMemory> {
-    match right_side(state, rhs, fuel, size) {
-        Ok(rhs) => Ok(Alt { binders, rhs, span }),
+        Ok(binders) => match right_side(state, rhs, fuel, size) {
+            Ok(rhs) => Ok(Alt { binders, rhs, span }),
+            Err(error) => Err(error),
+        },
         Err(error) => Err(error),
     }
 }
 
 #[cycle(exprs)]
-pub(crate) fn right_side(
+fn right_side(
     state: &mut Bracketing,
     rhs: Rhs,
     fuel: u32,
@@ -98,22 +73,12 @@ fn guard_list(
     let guards = in_order(state.alloc, guards)?;
     let mut done = Items::new(state.alloc);
     for next in guards {
-        add_guard(state, next, fuel, &mut done, size)?;
+        match guard(state, next, fuel, size) {
+            Ok(next) => done.push(next)?,
+            Err(error) => return Err(error),
+        }
     }
     Ok(done)
-}
-
-#[cycle(exprs)]
-fn add_guard(
-    state: &mut Bracketing,
-    next: Guard,
-    fuel: u32,
-    done: &mut Items<Guard>,
-    size: &mut Size,
-) -> Result<(), NoMemory> {
-    let next = guard(state, next, fuel, size)?;
-    done.push(next)?;
-    Ok(())
 }
 
 #[cycle(exprs)]
@@ -129,27 +94,14 @@ fn guard(
         span,
     } = next;
     match test_list(state, tests, fuel, size) {
-        Ok(tests) => guarded(state, tests, branch, span, fuel, size),
-        Err(error) => Err(error),
-    }
-}
-
-/// A guard whose tests are done.
-#[cycle(exprs)]
-fn guarded(
-    state: &mut Bracketing,
-    tests: Items<Test>,
-    branch: Branch,
-    span: Span,
-    fuel: u32,
-    size: &mut Size,
-) -> Result<Guard, NoMemory> {
-    match branch_of(state, branch, fuel, size) {
-        Ok(branch) => Ok(Guard {
-            tests,
-            branch,
-            span,
-        }),
+        Ok(tests) => match branch_of(state, branch, fuel, size) {
+            Ok(branch) => Ok(Guard {
+                tests,
+                branch,
+                span,
+            }),
+            Err(error) => Err(error),
+        },
         Err(error) => Err(error),
     }
 }
@@ -164,22 +116,12 @@ fn test_list(
     let tests = in_order(state.alloc, tests)?;
     let mut done = Items::new(state.alloc);
     for next in tests {
-        add_test(state, next, fuel, &mut done, size)?;
+        match test_of(state, next, fuel, size) {
+            Ok(next) => done.push(next)?,
+            Err(error) => return Err(error),
+        }
     }
     Ok(done)
-}
-
-#[cycle(exprs)]
-fn add_test(
-    state: &mut Bracketing,
-    next: Test,
-    fuel: u32,
-    done: &mut Items<Test>,
-    size: &mut Size,
-) -> Result<(), NoMemory> {
-    let next = test_of(state, next, fuel, size)?;
-    done.push(next)?;
-    Ok(())
 }
 
 #[cycle(exprs)]
@@ -198,42 +140,17 @@ fn test_of(
             binder: bound,
             value,
             span,
-        } => test_binds(state, bound, value, span, fuel, size),
-    }
-}
-
-#[cycle(exprs)]
-fn test_binds(
-    state: &mut Bracketing,
-    bound: BinderTree,
-    value: ExprTree,
-    span: Span,
-    fuel: u32,
-    size: &mut Size,
-) -> Result<Test, NoMemory> {
-    match binder(state, bound, FUEL, size) {
-        Ok(bound) => test_value(state, bound, value, span, fuel, size),
-        Err(error) => Err(error),
-    }
-}
-
-/// A test whose binder is done.
-#[cycle(exprs)]
-fn test_value(
-    state: &mut Bracketing,
-    bound: BinderTree,
-    value: ExprTree,
-    span: Span,
-    fuel: u32,
-    size: &mut Size,
-) -> Result<Test, NoMemory> {
-    match expr(state, value, fuel, size) {
-        Ok(value) => Ok(Test::Binds {
-            binder: bound,
-            value,
-            span,
-        }),
-        Err(error) => Err(error),
+        } => match binder(state, bound, FUEL, size) {
+            Ok(bound) => match expr(state, value, fuel, size) {
+                Ok(value) => Ok(Test::Binds {
+                    binder: bound,
+                    value,
+                    span,
+                }),
+                Err(error) => Err(error),
+            },
+            Err(error) => Err(error),
+        },
     }
 }
 
@@ -246,22 +163,10 @@ fn branch_of(
 ) -> Result<Branch, NoMemory> {
     let Branch { body, locals } = branch;
     match boxed(state, body, fuel, size) {
-        Ok(body) => branch_behind(state, body, locals, fuel, size),
-        Err(error) => Err(error),
-    }
-}
-
-/// A branch whose expression is done.
-#[cycle(exprs)]
-fn branch_behind(
-    state: &mut Bracketing,
-    body: Boxed<ExprTree>,
-    locals: Option<Locals>,
-    fuel: u32,
-    size: &mut Size,
-) -> Result<Branch, NoMemory> {
-    match locals_of(state, locals, fuel, size) {
-        Ok(locals) => Ok(Branch { body, locals }),
+        Ok(body) => match locals_of(state, locals, fuel, size) {
+            Ok(locals) => Ok(Branch { body, locals }),
+            Err(error) => Err(error),
+        },
         Err(error) => Err(error),
     }
 }
@@ -294,39 +199,20 @@ pub(crate) fn bind_list(
         state.too_deep = true;
         return Ok(binds);
     }
-    bindings(state, binds, fuel - 1, size)
-}
-
-#[cycle(exprs)]
-fn bindings(
-    state: &mut Bracketing,
-    binds: Items<Bind>,
-    fuel: u32,
-    size: &mut Size,
-) -> Result<Items<Bind>, NoMemory> {
+    let fuel = fuel - 1;
     let binds = in_order(state.alloc, binds)?;
     let mut done = Items::new(state.alloc);
     let mut all = Size::NONE;
     for next in binds {
         let mut inside = Size::NONE;
-        add_bind(state, next, fuel, &mut done, &mut inside)?;
+        match bind_of(state, next, fuel, &mut inside) {
+            Ok(next) => done.push(next)?,
+            Err(error) => return Err(error),
+        }
         all = all.beside(inside);
     }
     *size = size.then(all.enclosed());
     Ok(done)
-}
-
-#[cycle(exprs)]
-fn add_bind(
-    state: &mut Bracketing,
-    next: Bind,
-    fuel: u32,
-    done: &mut Items<Bind>,
-    size: &mut Size,
-) -> Result<(), NoMemory> {
-    let next = bind_of(state, next, fuel, size)?;
-    done.push(next)?;
-    Ok(())
 }
 
 #[cycle(exprs)]
@@ -343,42 +229,17 @@ fn bind_of(
             binder: bound,
             rhs,
             span,
-        } => bind_value(state, bound, rhs, span, fuel, size),
-    }
-}
-
-#[cycle(exprs)]
-fn bind_value(
-    state: &mut Bracketing,
-    bound: BinderTree,
-    rhs: Rhs,
-    span: Span,
-    fuel: u32,
-    size: &mut Size,
-) -> Result<Bind, NoMemory> {
-    match binder(state, bound, FUEL, size) {
-        Ok(bound) => bind_behind(state, bound, rhs, span, fuel, size),
-        Err(error) => Err(error),
-    }
-}
-
-/// A binding whose binder is done.
-#[cycle(exprs)]
-fn bind_behind(
-    state: &mut Bracketing,
-    bound: BinderTree,
-    rhs: Rhs,
-    span: Span,
-    fuel: u32,
-    size: &mut Size,
-) -> Result<Bind, NoMemory> {
-    match right_side(state, rhs, fuel, size) {
-        Ok(rhs) => Ok(Bind::Value {
-            binder: bound,
-            rhs,
-            span,
-        }),
-        Err(error) => Err(error),
+        } => match binder(state, bound, FUEL, size) {
+            Ok(bound) => match right_side(state, rhs, fuel, size) {
+                Ok(rhs) => Ok(Bind::Value {
+                    binder: bound,
+                    rhs,
+                    span,
+                }),
+                Err(error) => Err(error),
+            },
+            Err(error) => Err(error),
+        },
     }
 }
 
@@ -397,29 +258,15 @@ pub(crate) fn clause(
         span,
     } = one;
     match binder_list(state, arguments, size) {
-        Ok(arguments) => clause_behind(state, name, arguments, rhs, span, fuel, size),
-        Err(error) => Err(error),
-    }
-}
-
-/// A clause whose arguments are done.
-#[cycle(exprs)]
-fn clause_behind(
-    state: &mut Bracketing,
-    name: IdentAt,
-    arguments: Items<BinderTree>,
-    rhs: Rhs,
-    span: Span,
-    fuel: u32,
-    size: &mut Size,
-) -> Result<Clause, NoMemory> {
-    match right_side(state, rhs, fuel, size) {
-        Ok(rhs) => Ok(Clause {
-            name,
-            arguments,
-            rhs,
-            span,
-        }),
+        Ok(arguments) => match right_side(state, rhs, fuel, size) {
+            Ok(rhs) => Ok(Clause {
+                name,
+                arguments,
+                rhs,
+                span,
+            }),
+            Err(error) => Err(error),
+        },
         Err(error) => Err(error),
     }
 }
@@ -437,24 +284,14 @@ pub(crate) fn statements(
     let mut all = Size::NONE;
     for next in list {
         let mut inside = Size::NONE;
-        add_statement(state, next, fuel, &mut done, &mut inside)?;
+        match statement(state, next, fuel, &mut inside) {
+            Ok(next) => done.push(next)?,
+            Err(error) => return Err(error),
+        }
         all = all.beside(inside.under(levels(done.len())));
     }
     *size = size.then(all.enclosed());
     Ok(done)
-}
-
-#[cycle(exprs)]
-fn add_statement(
-    state: &mut Bracketing,
-    next: Stmt,
-    fuel: u32,
-    done: &mut Items<Stmt>,
-    size: &mut Size,
-) -> Result<(), NoMemory> {
-    let next = statement(state, next, fuel, size)?;
-    done.push(next)?;
-    Ok(())
 }
 
 #[cycle(exprs)]
@@ -469,7 +306,17 @@ fn statement(
             binder: bound,
             value,
             span,
-        } => statement_binds(state, bound, value, span, fuel, size),
+        } => match binder(state, bound, FUEL, size) {
+            Ok(bound) => match expr(state, value, fuel, size) {
+                Ok(value) => Ok(Stmt::Binds {
+                    binder: bound,
+                    value,
+                    span,
+                }),
+                Err(error) => Err(error),
+            },
+            Err(error) => Err(error),
+        },
         Stmt::Let { binds, span } => {
             *size = size.then(Size::KEYWORD);
             match bind_list(state, binds, fuel, size) {
@@ -481,40 +328,5 @@ fn statement(
             Ok(value) => Ok(Stmt::Run { value }),
             Err(error) => Err(error),
         },
-    }
-}
-
-#[cycle(exprs)]
-fn statement_binds(
-    state: &mut Bracketing,
-    bound: BinderTree,
-    value: ExprTree,
-    span: Span,
-    fuel: u32,
-    size: &mut Size,
-) -> Result<Stmt, NoMemory> {
-    match binder(state, bound, FUEL, size) {
-        Ok(bound) => statement_value(state, bound, value, span, fuel, size),
-        Err(error) => Err(error),
-    }
-}
-
-/// A statement whose binder is done.
-#[cycle(exprs)]
-fn statement_value(
-    state: &mut Bracketing,
-    bound: BinderTree,
-    value: ExprTree,
-    span: Span,
-    fuel: u32,
-    size: &mut Size,
-) -> Result<Stmt, NoMemory> {
-    match expr(state, value, fuel, size) {
-        Ok(value) => Ok(Stmt::Binds {
-            binder: bound,
-            value,
-            span,
-        }),
-        Err(error) => Err(error),
     }
 }

@@ -1,13 +1,15 @@
 //! Expressions without chains.
 //!
-//! Each function has one step that may fail, so that its proof has few values to drop.
+//! A function has one or two steps that may fail and few values beside them, so that its proof has little to drop.
+
+ghost use Rattle.std.specs.Prelude.{◌≡◌, ◌<◌, ◌↔◌, ◌⊎◌, IsTrue};
 
 use crate::chains::{chain, ticks};
-use crate::forms::{ado_block, calling, case_of, choice, do_block, lambda, let_in};
+use crate::forms::{ado_block, case_of, choice, do_block, lambda, let_in};
 use crate::state::{Bracketing, FUEL, Space, in_order};
 use crate::types::x_type;
 use psc_ast::{ExprTree, Field, LabelAt, Mention, TypeTree, Update};
-use psc_chain::Size;
+use psc_chain::{Size, levels};
 use psc_text::{NoMemory, Span};
 use sqlite_items::{Boxed, Items};
 use std::alloc::Global;
@@ -24,24 +26,70 @@ pub(crate) fn expr(
         state.too_deep = true;
         return Ok(tree);
     }
+    let fuel = fuel - 1;
     match tree {
-        ExprTree::Chain { .. }
-        | ExprTree::Ticks { .. }
-        | ExprTree::Operation { .. }
-        | ExprTree::Typed { .. }
-        | ExprTree::Negate { .. }
-        | ExprTree::Call { .. } => applied(state, tree, fuel - 1, size),
-        ExprTree::Lambda { .. }
-        | ExprTree::If { .. }
-        | ExprTree::Case { .. }
-        | ExprTree::Let { .. }
-        | ExprTree::Do { .. }
-        | ExprTree::Ado { .. } => form(state, tree, fuel - 1, size),
-        ExprTree::Access { .. }
-        | ExprTree::Update { .. }
-        | ExprTree::Paren { .. }
-        | ExprTree::Array { .. }
-        | ExprTree::XRecord { .. } => part(state, tree, fuel - 1, size),
+        ExprTree::Chain { first, rest, span } => chain(state, first, rest, span, fuel, size),
+        ExprTree::Ticks { first, rest, span } => ticks(state, first, rest, span, fuel, size),
+        ExprTree::Operation {
+            op,
+            left,
+            right,
+            span,
+        } => operation(state, op, left, right, span, fuel, size),
+        ExprTree::Typed {
+            value,
+            x_type: written,
+            span,
+        } => typed(state, value, written, span, fuel, size),
+        ExprTree::Negate {
+            minus,
+            operand,
+            span,
+        } => negated(state, minus, operand, span, fuel, size),
+        ExprTree::Call {
+            function,
+            arguments,
+            span,
+        } => call(state, function, arguments, span, fuel, size),
+        ExprTree::Lambda {
+            binders,
+            body,
+            span,
+        } => lambda(state, binders, body, span, fuel, size),
+        ExprTree::If {
+            test,
+            then,
+            otherwise,
+            span,
+        } => choice(state, test, then, otherwise, span, fuel, size),
+        ExprTree::Case {
+            scrutinees,
+            alternatives: list,
+            span,
+        } => case_of(state, scrutinees, list, span, fuel, size),
+        ExprTree::Let { binds, body, span } => let_in(state, binds, body, span, fuel, size),
+        ExprTree::Do {
+            statements: list,
+            span,
+        } => do_block(state, list, span, fuel, size),
+        ExprTree::Ado {
+            statements: list,
+            result: body,
+            span,
+        } => ado_block(state, list, body, span, fuel, size),
+        ExprTree::Access {
+            subject,
+            labels,
+            span,
+        } => access(state, subject, labels, span, fuel, size),
+        ExprTree::Update {
+            subject,
+            updates,
+            span,
+        } => update(state, subject, updates, span, fuel, size),
+        ExprTree::Paren { inner, span } => paren(state, inner, span, fuel, size),
+        ExprTree::Array { items, span } => array(state, items, span, fuel, size),
+        ExprTree::XRecord { fields, span } => record(state, fields, span, fuel, size),
         ExprTree::Operator { name, span } => operator(state, &name, span, size),
         ExprTree::Integer { .. }
         | ExprTree::Str { .. }
@@ -79,53 +127,21 @@ pub(crate) fn boxed(
     Ok(Boxed::new(alloc, tree)?)
 }
 
-/// Adds an expression to a list.
+/// Two expressions behind one another.
 #[cycle(exprs)]
-pub(crate) fn add_expr(
+pub(crate) fn both(
     state: &mut Bracketing,
-    next: ExprTree,
-    fuel: u32,
-    done: &mut Items<ExprTree>,
-    size: &mut Size,
-) -> Result<(), NoMemory> {
-    let next = expr(state, next, fuel, size)?;
-    done.push(next)?;
-    Ok(())
-}
-
-/// Expressions that are operands or arguments.
-#[cycle(exprs)]
-fn applied(
-    state: &mut Bracketing,
-    tree: ExprTree,
+    first: Boxed<ExprTree>,
+    second: Boxed<ExprTree>,
     fuel: u32,
     size: &mut Size,
-) -> Result<ExprTree, NoMemory> {
-    match tree {
-        ExprTree::Chain { first, rest, span } => chain(state, first, rest, span, fuel, size),
-        ExprTree::Ticks { first, rest, span } => ticks(state, first, rest, span, fuel, size),
-        ExprTree::Operation {
-            op,
-            left,
-            right,
-            span,
-        } => operation(state, op, left, right, span, fuel, size),
-        ExprTree::Typed {
-            value,
-            x_type: written,
-            span,
-        } => typed(state, value, written, span, fuel, size),
-        ExprTree::Negate {
-            minus,
-            operand,
-            span,
-        } => negated(state, minus, operand, span, fuel, size),
-        ExprTree::Call {
-            function,
-            arguments,
-            span,
-        } => calling(state, function, arguments, span, fuel, size),
-        other => Ok(other),
+) -> Result<(Boxed<ExprTree>, Boxed<ExprTree>), NoMemory> {
+    match boxed(state, first, fuel, size) {
+        Ok(first) => match boxed(state, second, fuel, size) {
+            Ok(second) => Ok((first, second)),
+            Err(error) => Err(error),
+        },
+        Err(error) => Err(error),
     }
 }
 
@@ -139,25 +155,8 @@ fn operation(
     fuel: u32,
     size: &mut Size,
 ) -> Result<ExprTree, NoMemory> {
-    match boxed(state, left, fuel, size) {
-        Ok(left) => right_of(state, op, left, right, span, fuel, size),
-        Err(error) => Err(error),
-    }
-}
-
-/// An operation whose left operand is done.
-#[cycle(exprs)]
-fn right_of(
-    state: &mut Bracketing,
-    op: Mention,
-    left: Boxed<ExprTree>,
-    right: Boxed<ExprTree>,
-    span: Span,
-    fuel: u32,
-    size: &mut Size,
-) -> Result<ExprTree, NoMemory> {
-    match boxed(state, right, fuel, size) {
-        Ok(right) => Ok(ExprTree::Operation {
+    match both(state, left, right, fuel, size) {
+        Ok((left, right)) => Ok(ExprTree::Operation {
             op,
             left,
             right,
@@ -178,6 +177,29 @@ fn typed(
 ) -> Result<ExprTree, NoMemory> {
     match boxed(state, value, fuel, size) {
         Ok(value) => of_type(state, value, written, span, size),
+        Err(error) => Err(error),
+    }
+}
+
+#[cycle(exprs)]
+fn negated(
+    state: &mut Bracketing,
+    minus: Span,
+    operand: Boxed<ExprTree>,
+    span: Span,
+    fuel: u32,
+    size: &mut Size,
+) -> Result<ExprTree, NoMemory> {
+    let mut inside = Size::NONE;
+    match boxed(state, operand, fuel, &mut inside) {
+        Ok(operand) => {
+            *size = size.then(inside.under(1));
+            Ok(ExprTree::Negate {
+                minus,
+                operand,
+                span,
+            })
+        }
         Err(error) => Err(error),
     }
 }
@@ -212,92 +234,83 @@ fn with_type(
     }
 }
 
+/// Whether a place ends before another. So a call's function does, but for one that a statement calls unwritten: that has the
+/// place of the whole form.
+fn ends_before(one: Span, other: Span) -> bool
+    ensures { IsTrue result ↔ ((one.end_line < other.end_line) ⊎ ((one.end_line ≡ other.end_line) × (one.end_column < other.end_column))) }
+{
+    if one.end_line < other.end_line {
+        return true;
+    }
+    one.end_line == other.end_line && one.end_column < other.end_column
+}
+
 #[cycle(exprs)]
-fn negated(
+fn call(
     state: &mut Bracketing,
-    minus: Span,
-    operand: Boxed<ExprTree>,
+    function: Boxed<ExprTree>,
+    arguments: Items<ExprTree>,
     span: Span,
     fuel: u32,
     size: &mut Size,
 ) -> Result<ExprTree, NoMemory> {
-    let mut inside = Size::NONE;
-    match boxed(state, operand, fuel, &mut inside) {
-        Ok(operand) => {
-            *size = size.then(inside.under(1));
-            Ok(ExprTree::Negate {
-                minus,
-                operand,
+    let written = ends_before(function.get().span(), span);
+    match boxed(state, function, fuel, size) {
+        Ok(function) => match expr_list(state, arguments, written, fuel, size) {
+            Ok(arguments) => Ok(ExprTree::Call {
+                function,
+                arguments,
                 span,
-            })
-        }
+            }),
+            Err(error) => Err(error),
+        },
         Err(error) => Err(error),
     }
 }
 
-/// Expressions that begin with a keyword or a backslash.
+/// Expressions behind one another. As arguments of a written call each is under as many levels more as there are up to it.
 #[cycle(exprs)]
-fn form(
+pub(crate) fn expr_list(
     state: &mut Bracketing,
-    tree: ExprTree,
+    list: Items<ExprTree>,
+    as_arguments: bool,
     fuel: u32,
     size: &mut Size,
-) -> Result<ExprTree, NoMemory> {
-    match tree {
-        ExprTree::Lambda {
-            binders,
-            body,
-            span,
-        } => lambda(state, binders, body, span, fuel, size),
-        ExprTree::If {
-            test,
-            then,
-            otherwise,
-            span,
-        } => choice(state, test, then, otherwise, span, fuel, size),
-        ExprTree::Case {
-            scrutinees,
-            alternatives: list,
-            span,
-        } => case_of(state, scrutinees, list, span, fuel, size),
-        ExprTree::Let { binds, body, span } => let_in(state, binds, body, span, fuel, size),
-        ExprTree::Do {
-            statements: list,
-            span,
-        } => do_block(state, list, span, fuel, size),
-        ExprTree::Ado {
-            statements: list,
-            result,
-            span,
-        } => ado_block(state, list, result, span, fuel, size),
-        other => Ok(other),
+) -> Result<Items<ExprTree>, NoMemory> {
+    let list = in_order(state.alloc, list)?;
+    let mut done = Items::new(state.alloc);
+    for next in list {
+        let mut inside = Size::NONE;
+        match expr(state, next, fuel, &mut inside) {
+            Ok(next) => done.push(next)?,
+            Err(error) => return Err(error),
+        }
+        *size = size.then(inside.under(if as_arguments { levels(done.len()) } else { 0 }));
     }
+    Ok(done)
 }
 
-/// Expressions of a record or in brackets.
+/// Expressions in brackets with commas between them.
 #[cycle(exprs)]
-fn part(
+fn beside(
     state: &mut Bracketing,
-    tree: ExprTree,
+    list: Items<ExprTree>,
     fuel: u32,
     size: &mut Size,
-) -> Result<ExprTree, NoMemory> {
-    match tree {
-        ExprTree::Access {
-            subject,
-            labels,
-            span,
-        } => access(state, subject, labels, span, fuel, size),
-        ExprTree::Update {
-            subject,
-            updates,
-            span,
-        } => update(state, subject, updates, span, fuel, size),
-        ExprTree::Paren { inner, span } => paren(state, inner, span, fuel, size),
-        ExprTree::Array { items, span } => array(state, items, span, fuel, size),
-        ExprTree::XRecord { fields, span } => record(state, fields, span, fuel, size),
-        other => Ok(other),
+) -> Result<Items<ExprTree>, NoMemory> {
+    let list = in_order(state.alloc, list)?;
+    let mut done = Items::new(state.alloc);
+    let mut all = Size::NONE;
+    for next in list {
+        let mut inside = Size::NONE;
+        match expr(state, next, fuel, &mut inside) {
+            Ok(next) => done.push(next)?,
+            Err(error) => return Err(error),
+        }
+        all = all.beside(inside);
     }
+    *size = size.then(all.enclosed());
+    Ok(done)
 }
 
 #[cycle(exprs)]
@@ -329,73 +342,14 @@ fn update(
     size: &mut Size,
 ) -> Result<ExprTree, NoMemory> {
     match boxed(state, subject, fuel, size) {
-        Ok(subject) => updated(state, subject, updates, span, fuel, size),
-        Err(error) => Err(error),
-    }
-}
-
-/// An update whose subject is done.
-#[cycle(exprs)]
-fn updated(
-    state: &mut Bracketing,
-    subject: Boxed<ExprTree>,
-    updates: Items<Update>,
-    span: Span,
-    fuel: u32,
-    size: &mut Size,
-) -> Result<ExprTree, NoMemory> {
-    match update_list(state, updates, fuel, size) {
-        Ok(updates) => Ok(ExprTree::Update {
-            subject,
-            updates,
-            span,
-        }),
-        Err(error) => Err(error),
-    }
-}
-
-#[cycle(exprs)]
-fn update_list(
-    state: &mut Bracketing,
-    updates: Items<Update>,
-    fuel: u32,
-    size: &mut Size,
-) -> Result<Items<Update>, NoMemory> {
-    let updates = in_order(state.alloc, updates)?;
-    let mut done = Items::new(state.alloc);
-    let mut all = Size::NONE;
-    for next in updates {
-        let mut inside = Size::NONE;
-        add_update(state, next, fuel, &mut done, &mut inside)?;
-        all = all.beside(inside);
-    }
-    *size = size.then(all.enclosed());
-    Ok(done)
-}
-
-#[cycle(exprs)]
-fn add_update(
-    state: &mut Bracketing,
-    next: Update,
-    fuel: u32,
-    done: &mut Items<Update>,
-    size: &mut Size,
-) -> Result<(), NoMemory> {
-    let next = update_of(state, next, fuel, size)?;
-    done.push(next)?;
-    Ok(())
-}
-
-#[cycle(exprs)]
-fn update_of(
-    state: &mut Bracketing,
-    next: Update,
-    fuel: u32,
-    size: &mut Size,
-) -> Result<Update, NoMemory> {
-    let Update { label, value } = next;
-    match boxed(state, value, fuel, size) {
-        Ok(value) => Ok(Update { label, value }),
+        Ok(subject) => match update_list(state, updates, fuel, size) {
+            Ok(updates) => Ok(ExprTree::Update {
+                subject,
+                updates,
+                span,
+            }),
+            Err(error) => Err(error),
+        },
         Err(error) => Err(error),
     }
 }
@@ -432,26 +386,6 @@ fn array(
     }
 }
 
-/// Expressions in brackets with commas between them.
-#[cycle(exprs)]
-fn beside(
-    state: &mut Bracketing,
-    list: Items<ExprTree>,
-    fuel: u32,
-    size: &mut Size,
-) -> Result<Items<ExprTree>, NoMemory> {
-    let list = in_order(state.alloc, list)?;
-    let mut done = Items::new(state.alloc);
-    let mut all = Size::NONE;
-    for next in list {
-        let mut inside = Size::NONE;
-        add_expr(state, next, fuel, &mut done, &mut inside)?;
-        all = all.beside(inside);
-    }
-    *size = size.then(all.enclosed());
-    Ok(done)
-}
-
 #[cycle(exprs)]
 fn record(
     state: &mut Bracketing,
@@ -467,6 +401,28 @@ fn record(
 }
 
 #[cycle(exprs)]
+fn update_list(
+    state: &mut Bracketing,
+    updates: Items<Update>,
+    fuel: u32,
+    size: &mut Size,
+) -> Result<Items<Update>, NoMemory> {
+    let updates = in_order(state.alloc, updates)?;
+    let mut done = Items::new(state.alloc);
+    let mut all = Size::NONE;
+    for Update { label, value } in updates {
+        let mut inside = Size::NONE;
+        match boxed(state, value, fuel, &mut inside) {
+            Ok(value) => done.push(Update { label, value })?,
+            Err(error) => return Err(error),
+        }
+        all = all.beside(inside);
+    }
+    *size = size.then(all.enclosed());
+    Ok(done)
+}
+
+#[cycle(exprs)]
 fn field_list(
     state: &mut Bracketing,
     fields: Items<Field>,
@@ -476,40 +432,16 @@ fn field_list(
     let fields = in_order(state.alloc, fields)?;
     let mut done = Items::new(state.alloc);
     let mut all = Size::NONE;
-    for field in fields {
+    for Field { label, value } in fields {
         let mut inside = Size::NONE;
-        add_field(state, field, fuel, &mut done, &mut inside)?;
+        match written_value(state, value, fuel, &mut inside) {
+            Ok(value) => done.push(Field { label, value })?,
+            Err(error) => return Err(error),
+        }
         all = all.beside(inside);
     }
     *size = size.then(all.enclosed());
     Ok(done)
-}
-
-#[cycle(exprs)]
-fn add_field(
-    state: &mut Bracketing,
-    field: Field,
-    fuel: u32,
-    done: &mut Items<Field>,
-    size: &mut Size,
-) -> Result<(), NoMemory> {
-    let field = field_of(state, field, fuel, size)?;
-    done.push(field)?;
-    Ok(())
-}
-
-#[cycle(exprs)]
-fn field_of(
-    state: &mut Bracketing,
-    field: Field,
-    fuel: u32,
-    size: &mut Size,
-) -> Result<Field, NoMemory> {
-    let Field { label, value } = field;
-    match written_value(state, value, fuel, size) {
-        Ok(value) => Ok(Field { label, value }),
-        Err(error) => Err(error),
-    }
 }
 
 /// The expression behind a label, if one is written.

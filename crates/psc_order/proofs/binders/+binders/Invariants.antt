@@ -66,4 +66,3 @@ decreases-chain_steps l = 64 * l.fuel + 2
 
 abbrev pub decreases-add_step : goal.decreases-add_step
 decreases-add_step l = 64 * l.fuel + 1
-

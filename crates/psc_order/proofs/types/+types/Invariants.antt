@@ -90,4 +90,3 @@ decreases-row_behind l = 64 * l.fuel + 3
 
 abbrev pub decreases-row_tail : goal.decreases-row_tail
 decreases-row_tail l = 64 * l.fuel + 2
-
