@@ -1,5 +1,5 @@
 -- What resolving makes, of no tree but the node that it makes itself.
-use Rattle.std.specs.Prelude.{ℕ, List, [], ◌∷◌, Some}
+use Rattle.std.specs.Prelude.{ℕ, List, [], ◌∷◌, Option, Some}
 use Rattle.psc_text.specs.declared.names.Qualified.{Qualified}
 use Rattle.psc_text.specs.declared.span.Span.{Span}
 use Rattle.psc_ast.specs.declared.names.Mention.{Mention}
