@@ -7,8 +7,6 @@
 
 mod expanding;
 mod head;
-#[cfg(test)]
-mod tests;
 mod unfolding;
 
 pub use head::Prepared;
