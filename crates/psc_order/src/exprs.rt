@@ -4,8 +4,6 @@
 
 ghost use Rattle.std.specs.Prelude.{◌≡◌, ◌<◌, ◌↔◌, ◌⊎◌, IsTrue};
 
-use crate::chains::{chain, ticks};
-use crate::forms::{ado_block, case_of, choice, do_block, lambda, let_in};
 use crate::state::{Bracketing, FUEL, Space, in_order};
 use crate::types::x_type;
 use psc_ast::{ExprTree, Field, LabelAt, Mention, TypeTree, Update};
@@ -14,90 +12,394 @@ use psc_text::{NoMemory, Span};
 use sqlite_items::{Boxed, Items};
 use std::alloc::Global;
 
-/// An expression with its chains as trees.
-#[cycle(exprs)]
-pub(crate) fn expr(
-    state: &mut Bracketing,
-    tree: ExprTree,
-    fuel: u32,
-    size: &mut Size,
-) -> Result<ExprTree, NoMemory> {
-    if fuel == 0 {
-        state.too_deep = true;
-        return Ok(tree);
+impl Bracketing {
+    /// An expression with its chains as trees.
+    #[cycle(exprs)]
+    pub(crate) fn expr(
+        &mut self,
+        tree: ExprTree,
+        fuel: u32,
+        size: &mut Size,
+    ) -> Result<ExprTree, NoMemory> {
+        if fuel == 0 {
+            self.too_deep = true;
+            return Ok(tree);
+        }
+        let fuel = fuel - 1;
+        match tree {
+            ExprTree::Chain { first, rest, span } => self.chain(first, rest, span, fuel, size),
+            ExprTree::Ticks { first, rest, span } => self.ticks(first, rest, span, fuel, size),
+            ExprTree::Operation {
+                op,
+                left,
+                right,
+                span,
+            } => self.operation(op, left, right, span, fuel, size),
+            ExprTree::Typed {
+                value,
+                x_type: written,
+                span,
+            } => self.typed(value, written, span, fuel, size),
+            ExprTree::Negate {
+                minus,
+                operand,
+                span,
+            } => self.negated(minus, operand, span, fuel, size),
+            ExprTree::Call {
+                function,
+                arguments,
+                span,
+            } => self.call(function, arguments, span, fuel, size),
+            ExprTree::Lambda {
+                binders,
+                body,
+                span,
+            } => self.lambda(binders, body, span, fuel, size),
+            ExprTree::If {
+                test,
+                then,
+                otherwise,
+                span,
+            } => self.choice(test, then, otherwise, span, fuel, size),
+            ExprTree::Case {
+                scrutinees,
+                alternatives: list,
+                span,
+            } => self.case_of(scrutinees, list, span, fuel, size),
+            ExprTree::Let { binds, body, span } => self.let_in(binds, body, span, fuel, size),
+            ExprTree::Do {
+                statements: list,
+                span,
+            } => self.do_block(list, span, fuel, size),
+            ExprTree::Ado {
+                statements: list,
+                result: body,
+                span,
+            } => self.ado_block(list, body, span, fuel, size),
+            ExprTree::Access {
+                subject,
+                labels,
+                span,
+            } => self.access(subject, labels, span, fuel, size),
+            ExprTree::Update {
+                subject,
+                updates,
+                span,
+            } => self.update(subject, updates, span, fuel, size),
+            ExprTree::Paren { inner, span } => self.paren(inner, span, fuel, size),
+            ExprTree::Array { items, span } => self.array(items, span, fuel, size),
+            ExprTree::XRecord { fields, span } => self.record(fields, span, fuel, size),
+            ExprTree::Operator { name, span } => operator(self, &name, span, size),
+            ExprTree::Integer { .. }
+            | ExprTree::Str { .. }
+            | ExprTree::Character { .. }
+            | ExprTree::Boolean { .. }
+            | ExprTree::Variable { .. }
+            | ExprTree::Constructor { .. }
+            | ExprTree::Hole { .. } => Ok(tree),
+        }
     }
-    let fuel = fuel - 1;
-    match tree {
-        ExprTree::Chain { first, rest, span } => chain(state, first, rest, span, fuel, size),
-        ExprTree::Ticks { first, rest, span } => ticks(state, first, rest, span, fuel, size),
-        ExprTree::Operation {
-            op,
-            left,
-            right,
-            span,
-        } => operation(state, op, left, right, span, fuel, size),
-        ExprTree::Typed {
-            value,
-            x_type: written,
-            span,
-        } => typed(state, value, written, span, fuel, size),
-        ExprTree::Negate {
-            minus,
-            operand,
-            span,
-        } => negated(state, minus, operand, span, fuel, size),
-        ExprTree::Call {
-            function,
-            arguments,
-            span,
-        } => call(state, function, arguments, span, fuel, size),
-        ExprTree::Lambda {
-            binders,
-            body,
-            span,
-        } => lambda(state, binders, body, span, fuel, size),
-        ExprTree::If {
-            test,
-            then,
-            otherwise,
-            span,
-        } => choice(state, test, then, otherwise, span, fuel, size),
-        ExprTree::Case {
-            scrutinees,
-            alternatives: list,
-            span,
-        } => case_of(state, scrutinees, list, span, fuel, size),
-        ExprTree::Let { binds, body, span } => let_in(state, binds, body, span, fuel, size),
-        ExprTree::Do {
-            statements: list,
-            span,
-        } => do_block(state, list, span, fuel, size),
-        ExprTree::Ado {
-            statements: list,
-            result: body,
-            span,
-        } => ado_block(state, list, body, span, fuel, size),
-        ExprTree::Access {
-            subject,
-            labels,
-            span,
-        } => access(state, subject, labels, span, fuel, size),
-        ExprTree::Update {
-            subject,
-            updates,
-            span,
-        } => update(state, subject, updates, span, fuel, size),
-        ExprTree::Paren { inner, span } => paren(state, inner, span, fuel, size),
-        ExprTree::Array { items, span } => array(state, items, span, fuel, size),
-        ExprTree::XRecord { fields, span } => record(state, fields, span, fuel, size),
-        ExprTree::Operator { name, span } => operator(state, &name, span, size),
-        ExprTree::Integer { .. }
-        | ExprTree::Str { .. }
-        | ExprTree::Character { .. }
-        | ExprTree::Boolean { .. }
-        | ExprTree::Variable { .. }
-        | ExprTree::Constructor { .. }
-        | ExprTree::Hole { .. } => Ok(tree),
+
+    #[cycle(exprs)]
+    pub(crate) fn boxed(
+        &mut self,
+        tree: Boxed<ExprTree>,
+        fuel: u32,
+        size: &mut Size,
+    ) -> Result<Boxed<ExprTree>, NoMemory> {
+        let alloc = self.alloc;
+        let tree = self.expr(tree.into_inner(), fuel, size)?;
+        Ok(Boxed::new(alloc, tree)?)
+    }
+
+    /// Two expressions behind one another.
+    #[cycle(exprs)]
+    pub(crate) fn both(
+        &mut self,
+        first: Boxed<ExprTree>,
+        second: Boxed<ExprTree>,
+        fuel: u32,
+        size: &mut Size,
+    ) -> Result<(Boxed<ExprTree>, Boxed<ExprTree>), NoMemory> {
+        match self.boxed(first, fuel, size) {
+            Ok(first) => match self.boxed(second, fuel, size) {
+                Ok(second) => Ok((first, second)),
+                Err(error) => Err(error),
+            },
+            Err(error) => Err(error),
+        }
+    }
+
+    #[cycle(exprs)]
+    fn operation(
+        &mut self,
+        op: Mention,
+        left: Boxed<ExprTree>,
+        right: Boxed<ExprTree>,
+        span: Span,
+        fuel: u32,
+        size: &mut Size,
+    ) -> Result<ExprTree, NoMemory> {
+        match self.both(left, right, fuel, size) {
+            Ok((left, right)) => Ok(ExprTree::Operation {
+                op,
+                left,
+                right,
+                span,
+            }),
+            Err(error) => Err(error),
+        }
+    }
+
+    #[cycle(exprs)]
+    fn typed(
+        &mut self,
+        value: Boxed<ExprTree>,
+        written: Boxed<TypeTree>,
+        span: Span,
+        fuel: u32,
+        size: &mut Size,
+    ) -> Result<ExprTree, NoMemory> {
+        match self.boxed(value, fuel, size) {
+            Ok(value) => of_type(self, value, written, span, size),
+            Err(error) => Err(error),
+        }
+    }
+
+    #[cycle(exprs)]
+    fn negated(
+        &mut self,
+        minus: Span,
+        operand: Boxed<ExprTree>,
+        span: Span,
+        fuel: u32,
+        size: &mut Size,
+    ) -> Result<ExprTree, NoMemory> {
+        let mut inside = Size::NONE;
+        match self.boxed(operand, fuel, &mut inside) {
+            Ok(operand) => {
+                *size = size.then(inside.under(1));
+                Ok(ExprTree::Negate {
+                    minus,
+                    operand,
+                    span,
+                })
+            }
+            Err(error) => Err(error),
+        }
+    }
+
+    #[cycle(exprs)]
+    fn call(
+        &mut self,
+        function: Boxed<ExprTree>,
+        arguments: Items<ExprTree>,
+        span: Span,
+        fuel: u32,
+        size: &mut Size,
+    ) -> Result<ExprTree, NoMemory> {
+        let written = ends_before(function.get().span(), span);
+        match self.boxed(function, fuel, size) {
+            Ok(function) => match self.expr_list(arguments, written, fuel, size) {
+                Ok(arguments) => Ok(ExprTree::Call {
+                    function,
+                    arguments,
+                    span,
+                }),
+                Err(error) => Err(error),
+            },
+            Err(error) => Err(error),
+        }
+    }
+
+    /// Expressions behind one another. As arguments of a written call each is under as many levels more as there are up to it.
+    #[cycle(exprs)]
+    pub(crate) fn expr_list(
+        &mut self,
+        list: Items<ExprTree>,
+        as_arguments: bool,
+        fuel: u32,
+        size: &mut Size,
+    ) -> Result<Items<ExprTree>, NoMemory> {
+        let list = in_order(self.alloc, list)?;
+        let mut done = Items::new(self.alloc);
+        for next in list {
+            let mut inside = Size::NONE;
+            match self.expr(next, fuel, &mut inside) {
+                Ok(next) => done.push(next)?,
+                Err(error) => return Err(error),
+            }
+            *size = size.then(inside.under(if as_arguments { levels(done.len()) } else { 0 }));
+        }
+        Ok(done)
+    }
+
+    /// Expressions in brackets with commas between them.
+    #[cycle(exprs)]
+    fn beside(
+        &mut self,
+        list: Items<ExprTree>,
+        fuel: u32,
+        size: &mut Size,
+    ) -> Result<Items<ExprTree>, NoMemory> {
+        let list = in_order(self.alloc, list)?;
+        let mut done = Items::new(self.alloc);
+        let mut all = Size::NONE;
+        for next in list {
+            let mut inside = Size::NONE;
+            match self.expr(next, fuel, &mut inside) {
+                Ok(next) => done.push(next)?,
+                Err(error) => return Err(error),
+            }
+            all = all.beside(inside);
+        }
+        *size = size.then(all.enclosed());
+        Ok(done)
+    }
+
+    #[cycle(exprs)]
+    fn access(
+        &mut self,
+        subject: Boxed<ExprTree>,
+        labels: Items<LabelAt>,
+        span: Span,
+        fuel: u32,
+        size: &mut Size,
+    ) -> Result<ExprTree, NoMemory> {
+        match self.boxed(subject, fuel, size) {
+            Ok(subject) => Ok(ExprTree::Access {
+                subject,
+                labels,
+                span,
+            }),
+            Err(error) => Err(error),
+        }
+    }
+
+    #[cycle(exprs)]
+    fn update(
+        &mut self,
+        subject: Boxed<ExprTree>,
+        updates: Items<Update>,
+        span: Span,
+        fuel: u32,
+        size: &mut Size,
+    ) -> Result<ExprTree, NoMemory> {
+        match self.boxed(subject, fuel, size) {
+            Ok(subject) => match self.update_list(updates, fuel, size) {
+                Ok(updates) => Ok(ExprTree::Update {
+                    subject,
+                    updates,
+                    span,
+                }),
+                Err(error) => Err(error),
+            },
+            Err(error) => Err(error),
+        }
+    }
+
+    #[cycle(exprs)]
+    fn paren(
+        &mut self,
+        inner: Boxed<ExprTree>,
+        span: Span,
+        fuel: u32,
+        size: &mut Size,
+    ) -> Result<ExprTree, NoMemory> {
+        let mut inside = Size::NONE;
+        match self.boxed(inner, fuel, &mut inside) {
+            Ok(inner) => {
+                *size = size.then(inside.enclosed());
+                Ok(ExprTree::Paren { inner, span })
+            }
+            Err(error) => Err(error),
+        }
+    }
+
+    #[cycle(exprs)]
+    fn array(
+        &mut self,
+        items: Items<ExprTree>,
+        span: Span,
+        fuel: u32,
+        size: &mut Size,
+    ) -> Result<ExprTree, NoMemory> {
+        match self.beside(items, fuel, size) {
+            Ok(items) => Ok(ExprTree::Array { items, span }),
+            Err(error) => Err(error),
+        }
+    }
+
+    #[cycle(exprs)]
+    fn record(
+        &mut self,
+        fields: Items<Field>,
+        span: Span,
+        fuel: u32,
+        size: &mut Size,
+    ) -> Result<ExprTree, NoMemory> {
+        match self.field_list(fields, fuel, size) {
+            Ok(fields) => Ok(ExprTree::XRecord { fields, span }),
+            Err(error) => Err(error),
+        }
+    }
+
+    #[cycle(exprs)]
+    fn update_list(
+        &mut self,
+        updates: Items<Update>,
+        fuel: u32,
+        size: &mut Size,
+    ) -> Result<Items<Update>, NoMemory> {
+        let updates = in_order(self.alloc, updates)?;
+        let mut done = Items::new(self.alloc);
+        let mut all = Size::NONE;
+        for Update { label, value } in updates {
+            let mut inside = Size::NONE;
+            match self.boxed(value, fuel, &mut inside) {
+                Ok(value) => done.push(Update { label, value })?,
+                Err(error) => return Err(error),
+            }
+            all = all.beside(inside);
+        }
+        *size = size.then(all.enclosed());
+        Ok(done)
+    }
+
+    #[cycle(exprs)]
+    fn field_list(
+        &mut self,
+        fields: Items<Field>,
+        fuel: u32,
+        size: &mut Size,
+    ) -> Result<Items<Field>, NoMemory> {
+        let fields = in_order(self.alloc, fields)?;
+        let mut done = Items::new(self.alloc);
+        let mut all = Size::NONE;
+        for Field { label, value } in fields {
+            let mut inside = Size::NONE;
+            match self.written_value(value, fuel, &mut inside) {
+                Ok(value) => done.push(Field { label, value })?,
+                Err(error) => return Err(error),
+            }
+            all = all.beside(inside);
+        }
+        *size = size.then(all.enclosed());
+        Ok(done)
+    }
+
+    /// The expression behind a label, if one is written.
+    #[cycle(exprs)]
+    fn written_value(
+        &mut self,
+        value: Option<Boxed<ExprTree>>,
+        fuel: u32,
+        size: &mut Size,
+    ) -> Result<Option<Boxed<ExprTree>>, NoMemory> {
+        match value {
+            Some(value) => Ok(Some(self.boxed(value, fuel, size)?)),
+            None => Ok(None),
+        }
     }
 }
 
@@ -113,95 +415,6 @@ fn operator(
     }
     let name = state.target(name, Space::Values)?;
     Ok(ExprTree::Operator { name, span })
-}
-
-#[cycle(exprs)]
-pub(crate) fn boxed(
-    state: &mut Bracketing,
-    tree: Boxed<ExprTree>,
-    fuel: u32,
-    size: &mut Size,
-) -> Result<Boxed<ExprTree>, NoMemory> {
-    let alloc = state.alloc;
-    let tree = expr(state, tree.into_inner(), fuel, size)?;
-    Ok(Boxed::new(alloc, tree)?)
-}
-
-/// Two expressions behind one another.
-#[cycle(exprs)]
-pub(crate) fn both(
-    state: &mut Bracketing,
-    first: Boxed<ExprTree>,
-    second: Boxed<ExprTree>,
-    fuel: u32,
-    size: &mut Size,
-) -> Result<(Boxed<ExprTree>, Boxed<ExprTree>), NoMemory> {
-    match boxed(state, first, fuel, size) {
-        Ok(first) => match boxed(state, second, fuel, size) {
-            Ok(second) => Ok((first, second)),
-            Err(error) => Err(error),
-        },
-        Err(error) => Err(error),
-    }
-}
-
-#[cycle(exprs)]
-fn operation(
-    state: &mut Bracketing,
-    op: Mention,
-    left: Boxed<ExprTree>,
-    right: Boxed<ExprTree>,
-    span: Span,
-    fuel: u32,
-    size: &mut Size,
-) -> Result<ExprTree, NoMemory> {
-    match both(state, left, right, fuel, size) {
-        Ok((left, right)) => Ok(ExprTree::Operation {
-            op,
-            left,
-            right,
-            span,
-        }),
-        Err(error) => Err(error),
-    }
-}
-
-#[cycle(exprs)]
-fn typed(
-    state: &mut Bracketing,
-    value: Boxed<ExprTree>,
-    written: Boxed<TypeTree>,
-    span: Span,
-    fuel: u32,
-    size: &mut Size,
-) -> Result<ExprTree, NoMemory> {
-    match boxed(state, value, fuel, size) {
-        Ok(value) => of_type(state, value, written, span, size),
-        Err(error) => Err(error),
-    }
-}
-
-#[cycle(exprs)]
-fn negated(
-    state: &mut Bracketing,
-    minus: Span,
-    operand: Boxed<ExprTree>,
-    span: Span,
-    fuel: u32,
-    size: &mut Size,
-) -> Result<ExprTree, NoMemory> {
-    let mut inside = Size::NONE;
-    match boxed(state, operand, fuel, &mut inside) {
-        Ok(operand) => {
-            *size = size.then(inside.under(1));
-            Ok(ExprTree::Negate {
-                minus,
-                operand,
-                span,
-            })
-        }
-        Err(error) => Err(error),
-    }
 }
 
 /// An expression with a type, itself done.
@@ -243,217 +456,4 @@ fn ends_before(one: Span, other: Span) -> bool
         return true;
     }
     one.end_line == other.end_line && one.end_column < other.end_column
-}
-
-#[cycle(exprs)]
-fn call(
-    state: &mut Bracketing,
-    function: Boxed<ExprTree>,
-    arguments: Items<ExprTree>,
-    span: Span,
-    fuel: u32,
-    size: &mut Size,
-) -> Result<ExprTree, NoMemory> {
-    let written = ends_before(function.get().span(), span);
-    match boxed(state, function, fuel, size) {
-        Ok(function) => match expr_list(state, arguments, written, fuel, size) {
-            Ok(arguments) => Ok(ExprTree::Call {
-                function,
-                arguments,
-                span,
-            }),
-            Err(error) => Err(error),
-        },
-        Err(error) => Err(error),
-    }
-}
-
-/// Expressions behind one another. As arguments of a written call each is under as many levels more as there are up to it.
-#[cycle(exprs)]
-pub(crate) fn expr_list(
-    state: &mut Bracketing,
-    list: Items<ExprTree>,
-    as_arguments: bool,
-    fuel: u32,
-    size: &mut Size,
-) -> Result<Items<ExprTree>, NoMemory> {
-    let list = in_order(state.alloc, list)?;
-    let mut done = Items::new(state.alloc);
-    for next in list {
-        let mut inside = Size::NONE;
-        match expr(state, next, fuel, &mut inside) {
-            Ok(next) => done.push(next)?,
-            Err(error) => return Err(error),
-        }
-        *size = size.then(inside.under(if as_arguments { levels(done.len()) } else { 0 }));
-    }
-    Ok(done)
-}
-
-/// Expressions in brackets with commas between them.
-#[cycle(exprs)]
-fn beside(
-    state: &mut Bracketing,
-    list: Items<ExprTree>,
-    fuel: u32,
-    size: &mut Size,
-) -> Result<Items<ExprTree>, NoMemory> {
-    let list = in_order(state.alloc, list)?;
-    let mut done = Items::new(state.alloc);
-    let mut all = Size::NONE;
-    for next in list {
-        let mut inside = Size::NONE;
-        match expr(state, next, fuel, &mut inside) {
-            Ok(next) => done.push(next)?,
-            Err(error) => return Err(error),
-        }
-        all = all.beside(inside);
-    }
-    *size = size.then(all.enclosed());
-    Ok(done)
-}
-
-#[cycle(exprs)]
-fn access(
-    state: &mut Bracketing,
-    subject: Boxed<ExprTree>,
-    labels: Items<LabelAt>,
-    span: Span,
-    fuel: u32,
-    size: &mut Size,
-) -> Result<ExprTree, NoMemory> {
-    match boxed(state, subject, fuel, size) {
-        Ok(subject) => Ok(ExprTree::Access {
-            subject,
-            labels,
-            span,
-        }),
-        Err(error) => Err(error),
-    }
-}
-
-#[cycle(exprs)]
-fn update(
-    state: &mut Bracketing,
-    subject: Boxed<ExprTree>,
-    updates: Items<Update>,
-    span: Span,
-    fuel: u32,
-    size: &mut Size,
-) -> Result<ExprTree, NoMemory> {
-    match boxed(state, subject, fuel, size) {
-        Ok(subject) => match update_list(state, updates, fuel, size) {
-            Ok(updates) => Ok(ExprTree::Update {
-                subject,
-                updates,
-                span,
-            }),
-            Err(error) => Err(error),
-        },
-        Err(error) => Err(error),
-    }
-}
-
-#[cycle(exprs)]
-fn paren(
-    state: &mut Bracketing,
-    inner: Boxed<ExprTree>,
-    span: Span,
-    fuel: u32,
-    size: &mut Size,
-) -> Result<ExprTree, NoMemory> {
-    let mut inside = Size::NONE;
-    match boxed(state, inner, fuel, &mut inside) {
-        Ok(inner) => {
-            *size = size.then(inside.enclosed());
-            Ok(ExprTree::Paren { inner, span })
-        }
-        Err(error) => Err(error),
-    }
-}
-
-#[cycle(exprs)]
-fn array(
-    state: &mut Bracketing,
-    items: Items<ExprTree>,
-    span: Span,
-    fuel: u32,
-    size: &mut Size,
-) -> Result<ExprTree, NoMemory> {
-    match beside(state, items, fuel, size) {
-        Ok(items) => Ok(ExprTree::Array { items, span }),
-        Err(error) => Err(error),
-    }
-}
-
-#[cycle(exprs)]
-fn record(
-    state: &mut Bracketing,
-    fields: Items<Field>,
-    span: Span,
-    fuel: u32,
-    size: &mut Size,
-) -> Result<ExprTree, NoMemory> {
-    match field_list(state, fields, fuel, size) {
-        Ok(fields) => Ok(ExprTree::XRecord { fields, span }),
-        Err(error) => Err(error),
-    }
-}
-
-#[cycle(exprs)]
-fn update_list(
-    state: &mut Bracketing,
-    updates: Items<Update>,
-    fuel: u32,
-    size: &mut Size,
-) -> Result<Items<Update>, NoMemory> {
-    let updates = in_order(state.alloc, updates)?;
-    let mut done = Items::new(state.alloc);
-    let mut all = Size::NONE;
-    for Update { label, value } in updates {
-        let mut inside = Size::NONE;
-        match boxed(state, value, fuel, &mut inside) {
-            Ok(value) => done.push(Update { label, value })?,
-            Err(error) => return Err(error),
-        }
-        all = all.beside(inside);
-    }
-    *size = size.then(all.enclosed());
-    Ok(done)
-}
-
-#[cycle(exprs)]
-fn field_list(
-    state: &mut Bracketing,
-    fields: Items<Field>,
-    fuel: u32,
-    size: &mut Size,
-) -> Result<Items<Field>, NoMemory> {
-    let fields = in_order(state.alloc, fields)?;
-    let mut done = Items::new(state.alloc);
-    let mut all = Size::NONE;
-    for Field { label, value } in fields {
-        let mut inside = Size::NONE;
-        match written_value(state, value, fuel, &mut inside) {
-            Ok(value) => done.push(Field { label, value })?,
-            Err(error) => return Err(error),
-        }
-        all = all.beside(inside);
-    }
-    *size = size.then(all.enclosed());
-    Ok(done)
-}
-
-/// The expression behind a label, if one is written.
-#[cycle(exprs)]
-fn written_value(
-    state: &mut Bracketing,
-    value: Option<Boxed<ExprTree>>,
-    fuel: u32,
-    size: &mut Size,
-) -> Result<Option<Boxed<ExprTree>>, NoMemory> {
-    match value {
-        Some(value) => Ok(Some(boxed(state, value, fuel, size)?)),
-        None => Ok(None),
-    }
 }

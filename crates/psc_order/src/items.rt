@@ -6,7 +6,6 @@ ghost use Rattle.std.specs.Prelude.{◌≡◌, [], option_map, IfOk};
 ghost use Rattle.psc_error.specs.declared.code.Code.TheVariants.{TooDeep};
 ghost use Rattle.psc_order.specs.Told as told;
 
-use crate::binds::clause;
 use crate::state::{Bracketing, FUEL, Refusal, in_order};
 use crate::types::{constraint_list, kind_size, sig, type_list, vars_size, x_type};
 use psc_ast::{
@@ -162,7 +161,7 @@ fn decl_of(state: &mut Bracketing, decl: Decl, size: &mut Size) -> Result<Decl, 
         Decl::Class(_) | Decl::Instance(_) => class_decl(state, decl, size),
         Decl::Fixity(_) => Ok(decl),
         Decl::Sig(one) => Ok(Decl::Sig(sig(state, one, size)?)),
-        Decl::Clause(one) => Ok(Decl::Clause(clause(state, one, FUEL, size)?)),
+        Decl::Clause(one) => Ok(Decl::Clause(state.clause(one, FUEL, size)?)),
     }
 }
 
@@ -432,7 +431,7 @@ fn add_clause(
     done: &mut Items<Clause>,
     size: &mut Size,
 ) -> Result<(), NoMemory> {
-    let member = clause(state, member, FUEL, size)?;
+    let member = state.clause(member, FUEL, size)?;
     done.push(member)?;
     Ok(())
 }

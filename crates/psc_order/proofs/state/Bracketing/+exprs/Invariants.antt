@@ -1,5 +1,5 @@
 use Rattle.std.proofs.Common.{◌*◌, ◌+◌}
-use Rattle.psc_order.proofs.binds.+exprs.Given as goal
+use Rattle.psc_order.proofs.state.Bracketing.+exprs.Given as goal
 
 abbrev pub decreases-alternatives : goal.decreases-alternatives
 decreases-alternatives l = 64 * l.fuel + 7
