@@ -33,10 +33,11 @@ pub(crate) fn constraint_of(
     own: &ModuleName,
     word: &str,
 ) -> Result<Constraint, NoMemory> {
-    Ok(Constraint {
-        class: qualified(alloc, own, word)?,
-        args: SharedItems::from_vec(alloc, Vec::new(alloc))?,
-    })
+    let class = qualified(alloc, own, word)?;
+    match SharedItems::from_vec(alloc, Vec::new(alloc)) {
+        Ok(args) => Ok(Constraint { class, args }),
+        Err(_) => Err(NoMemory),
+    }
 }
 
 /// The type of some words, from the last one on. No word stands for `Int`.
@@ -50,19 +51,70 @@ pub(crate) fn type_of(alloc: Global, own: &ModuleName, words: &[&str]) -> Result
 
 /// A word before a type.
 fn before(alloc: Global, own: &ModuleName, word: &str, rest: Ty) -> Result<Ty, NoMemory> {
-    if let Some(class) = word.strip_prefix("^") {
-        let constraint = constraint_of(alloc, own, class)?;
-        return Ok(Ty::Given(constraint, Shared::new(alloc, rest)?));
+    let rest = shared(alloc, rest)?;
+    match word.strip_prefix("^") {
+        Some(class) => given(alloc, own, class, rest),
+        None => unconstrained(alloc, own, word, rest),
     }
-    if word == "~" {
-        let name = Ident(Text::new(alloc, "a")?);
-        return Ok(Ty::Forall(name, Kind::Star, Shared::new(alloc, rest)?));
+}
+
+fn unconstrained(
+    alloc: Global,
+    own: &ModuleName,
+    word: &str,
+    rest: Shared<Ty>,
+) -> Result<Ty, NoMemory> {
+    match word {
+        "~" => quantified(alloc, rest),
+        "{" => row(alloc, rest),
+        _ => applied(alloc, own, word, rest),
     }
-    if word == "{" {
-        let label = Label(Text::new(alloc, "l")?);
-        let (field, tail) = (Shared::new(alloc, rest)?, Shared::new(alloc, Ty::RowNil)?);
-        return Ok(Ty::RowCons(label, field, tail));
+}
+
+fn shared(alloc: Global, ty: Ty) -> Result<Shared<Ty>, NoMemory> {
+    match Shared::new(alloc, ty) {
+        Ok(shared) => Ok(shared),
+        Err(_) => Err(NoMemory),
     }
-    let function = Ty::Con(qualified(alloc, own, word)?);
-    Ok(Ty::App(Shared::new(alloc, function)?, Shared::new(alloc, rest)?))
+}
+
+fn given(alloc: Global, own: &ModuleName, class: &str, rest: Shared<Ty>) -> Result<Ty, NoMemory> {
+    match constraint_of(alloc, own, class) {
+        Ok(constraint) => Ok(Ty::Given(constraint, rest)),
+        Err(error) => Err(error),
+    }
+}
+
+fn quantified(alloc: Global, rest: Shared<Ty>) -> Result<Ty, NoMemory> {
+    match Text::new(alloc, "a") {
+        Ok(name) => Ok(Ty::Forall(Ident(name), Kind::Star, rest)),
+        Err(error) => Err(error),
+    }
+}
+
+/// A row of one field.
+fn row(alloc: Global, field: Shared<Ty>) -> Result<Ty, NoMemory> {
+    match shared(alloc, Ty::RowNil) {
+        Ok(tail) => labelled(alloc, field, tail),
+        Err(error) => Err(error),
+    }
+}
+
+fn labelled(alloc: Global, field: Shared<Ty>, tail: Shared<Ty>) -> Result<Ty, NoMemory> {
+    match Text::new(alloc, "l") {
+        Ok(label) => Ok(Ty::RowCons(Label(label), field, tail)),
+        Err(error) => Err(error),
+    }
+}
+
+fn constructor(alloc: Global, own: &ModuleName, word: &str) -> Result<Shared<Ty>, NoMemory> {
+    let name = qualified(alloc, own, word)?;
+    shared(alloc, Ty::Con(name))
+}
+
+fn applied(alloc: Global, own: &ModuleName, word: &str, rest: Shared<Ty>) -> Result<Ty, NoMemory> {
+    match constructor(alloc, own, word) {
+        Ok(function) => Ok(Ty::App(function, rest)),
+        Err(error) => Err(error),
+    }
 }
