@@ -4,7 +4,7 @@
 //! the crate above, which calls these.
 #![tactic(auto)]
 
-mod binders;
+mod bound;
 mod build;
 mod groups;
 mod kinds;
@@ -16,7 +16,7 @@ mod state;
 mod stop;
 mod types;
 
-pub use binders::{add_binder, all_variables, binder, binders, enter_names, is_variable};
+pub use bound::{add_binder, all_variables, binder, binders, enter_names, is_variable};
 pub use build::{
     alternative, application, boxed, case_of_one, case_of_value, lambda, local, made, made_all,
     made_lambdas, value,

@@ -1,6 +1,6 @@
 //! The names that stand in one list already.
 
-ghost use Rattle.std.specs.Prelude.{◌≡◌, ◌×◌, ℕ, List, true, false, OnOk, OnErr, IfErr};
+ghost use Rattle.std.specs.Prelude.{◌≡◌, ℕ, List, true, false, OnOk, OnErr, IfErr};
 ghost use Rattle.std.specs.BTreeSet.{contains};
 ghost use Rattle.std.specs.Ordering.{nat_cmp};
 ghost use Rattle.std.specs.Cmp.Lexicographic.{slice_cmp};

@@ -1,6 +1,6 @@
 //! What desugaring keeps: the next made name, the holes that are open, and the local names.
 
-ghost use Rattle.std.specs.Prelude.{◌≡◌, ◌+◌, ◌×◌, ◌++◌, IfOk, OnOk, codes, decimal};
+ghost use Rattle.std.specs.Prelude.{◌≡◌, ◌+◌, ◌++◌, IfOk, OnOk, codes, decimal};
 ghost use Rattle.psc_plain_parts.specs.Made as spec;
 
 use crate::scope::Scope;
