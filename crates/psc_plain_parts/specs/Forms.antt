@@ -44,3 +44,7 @@ case_of e alts at = expr.Case (e ∷ []) alts at
 -- a case of one scrutinee with one alternative
 abbrev pub case_of_one : PlainExpr → PlainAlt → Span → PlainExpr
 case_of_one e alt at = expr.Case (e ∷ []) (alt ∷ []) at
+
+-- guards without arguments
+abbrev pub case_of_nothing : PlainRhs → Span → PlainExpr
+case_of_nothing r at = expr.Case [] (record { binders = []; rhs = r; span = at } ∷ []) at

@@ -1,5 +1,5 @@
 -- Clauses of one name that follow one another.
-use Rattle.std.specs.Prelude.{◌≡◌, [], ⊥, Option, Some, None, Bool, not, true}
+use Rattle.std.specs.Prelude.{◌≡◌, [], Bool, not, true}
 use Rattle.psc_ast.specs.declared.exprs.Clause.{Clause}
 use Rattle.psc_plain_parts.specs.declared.runs.Mark.{Mark}
 

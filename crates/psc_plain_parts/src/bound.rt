@@ -145,9 +145,24 @@ fn boxed_with_type(
     }
 }
 
+/// A binder that is a list of its own. Its names are in no scope behind it.
+pub fn binder_alone(state: &mut Desugar, tree: &BinderTree) -> Result<PlainBinder, Stop> {
+    let mark = state.scope.mark();
+    let mut names = state.names();
+    let plain = binder(state, tree, &mut names);
+    state.scope.leave(mark);
+    plain
+}
+
+/// Binders that are a list of their own, and whose names come into scope.
+pub fn binder_list(state: &mut Desugar, trees: &[BinderTree]) -> Result<Items<PlainBinder>, Stop> {
+    let mut names = state.names();
+    binders(state, trees, &mut names)
+}
+
 /// Binders of one list.
 #[cycle(binders)]
-pub fn binders(
+fn binders(
     state: &mut Desugar,
     trees: &[BinderTree],
     names: &mut Names,

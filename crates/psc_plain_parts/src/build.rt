@@ -159,7 +159,7 @@ pub fn made_all(
 }
 
 /// A list of one.
-fn one<T: Drop>(alloc: Global, item: T) -> Result<Items<T>, NoMemory>
+fn list_of_one<T: Drop>(alloc: Global, item: T) -> Result<Items<T>, NoMemory>
     ensures { IfOk result (λ list. list ≡ item ∷ []) }
 {
     let mut list = Items::new(alloc);
@@ -190,7 +190,7 @@ fn alternative_of(
 ) -> Result<PlainAlt, NoMemory>
     ensures { IfOk result (λ alt. alt ≡ spec.alternative binder body span) }
 {
-    match one(alloc, binder) {
+    match list_of_one(alloc, binder) {
         Ok(binders) => Ok(PlainAlt {
             binders,
             rhs: PlainRhs::Body(body),
@@ -209,7 +209,7 @@ pub fn case_of_one(
 ) -> Result<PlainExpr, NoMemory>
     ensures { IfOk result (λ made. made ≡ spec.case_of_one scrutinee alt span) }
 {
-    match one(alloc, alt) {
+    match list_of_one(alloc, alt) {
         Ok(alternatives) => case_of_value(alloc, scrutinee, alternatives, span),
         Err(error) => Err(error),
     }
@@ -224,12 +224,73 @@ pub fn case_of_value(
 ) -> Result<PlainExpr, NoMemory>
     ensures { IfOk result (λ made. made ≡ spec.case_of scrutinee alternatives span) }
 {
-    match one(alloc, scrutinee) {
+    match list_of_one(alloc, scrutinee) {
         Ok(scrutinees) => Ok(PlainExpr::Case {
             scrutinees,
             alternatives,
             span,
         }),
+        Err(error) => Err(error),
+    }
+}
+
+/// Guards without arguments: a case of nothing.
+pub fn case_of_nothing(alloc: Global, rhs: PlainRhs, span: Span) -> Result<PlainExpr, NoMemory>
+    ensures { IfOk result (λ made. made ≡ spec.case_of_nothing rhs span) }
+{
+    let alt = PlainAlt {
+        binders: Items::new(alloc),
+        rhs,
+        span,
+    };
+    match list_of_one(alloc, alt) {
+        Ok(alternatives) => Ok(PlainExpr::Case {
+            scrutinees: Items::new(alloc),
+            alternatives,
+            span,
+        }),
+        Err(error) => Err(error),
+    }
+}
+
+/// Functions of made names over a case of them all.
+pub fn made_case(
+    state: &Desugar,
+    numbers: Numbers,
+    alternatives: Items<PlainAlt>,
+    span: Span,
+) -> Result<PlainExpr, NoMemory> {
+    match made_all(state, numbers, span) {
+        Ok(scrutinees) => {
+            let whole = PlainExpr::Case {
+                scrutinees,
+                alternatives,
+                span,
+            };
+            made_lambdas(state, numbers, whole, span)
+        }
+        Err(error) => Err(error),
+    }
+}
+
+/// Functions of made names over a case of them all, whose only alternative has these binders.
+pub fn made_function(
+    state: &Desugar,
+    numbers: Numbers,
+    binders: Items<PlainBinder>,
+    body: PlainExpr,
+    span: Span,
+) -> Result<PlainExpr, NoMemory> {
+    match boxed(state.alloc, body) {
+        Ok(body) => {
+            let alt = PlainAlt {
+                binders,
+                rhs: PlainRhs::Body(body),
+                span,
+            };
+            let alternatives = list_of_one(state.alloc, alt)?;
+            made_case(state, numbers, alternatives, span)
+        }
         Err(error) => Err(error),
     }
 }

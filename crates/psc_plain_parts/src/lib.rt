@@ -16,10 +16,12 @@ mod state;
 mod stop;
 mod types;
 
-pub use bound::{add_binder, all_variables, binder, binders, enter_names, is_variable};
+pub use bound::{
+    add_binder, all_variables, binder, binder_alone, binder_list, enter_names, is_variable,
+};
 pub use build::{
-    alternative, application, boxed, case_of_one, case_of_value, lambda, local, made, made_all,
-    made_lambdas, value,
+    alternative, application, boxed, case_of_nothing, case_of_one, case_of_value, lambda, local,
+    made, made_case, made_function, made_lambdas, value,
 };
 pub use groups::groups_of;
 pub use kinds::{kind, kind_of_var};

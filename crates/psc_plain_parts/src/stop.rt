@@ -1,6 +1,6 @@
 //! Why desugaring stops before its end.
 
-ghost use Rattle.std.specs.Prelude.{◌≡◌, IfOk};
+ghost use Rattle.std.specs.Prelude.{◌≡◌, [], ◌∷◌, IfOk};
 ghost use Rattle.psc_plain_parts.specs.Problem as spec;
 ghost use Rattle.psc_plain_parts.specs.declared.stop.Stop.TheVariants.{NoMemory as OutOfMemory};
 
