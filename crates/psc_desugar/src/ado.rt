@@ -142,7 +142,9 @@ fn add_item(state: &mut Desugar, one: &Stmt, items: &mut Applied) -> Result<(), 
             add_call(state, value, &mut items.calls)
         }
         Stmt::Run { value } => {
-            items.binders.push(PlainBinder::Wild { span: value.span() })?;
+            items
+                .binders
+                .push(PlainBinder::Wild { span: value.span() })?;
             add_call(state, value, &mut items.calls)
         }
     }

@@ -4,7 +4,7 @@ ghost use Rattle.std.specs.Prelude.{◌≡◌, IfOk};
 
 use crate::type_decls::{class_of, data_of, foreign_data_of, synonym_of};
 use crate::values::{Values, members_of};
-use psc_ast::{Decl, FixityDecl, InstanceDecl, KindTree, Mention, OpAt, Sig};
+use psc_ast::{Clause, Decl, FixityDecl, InstanceDecl, KindTree, Mention, OpAt, Sig};
 use psc_plain::{PlainForeign, PlainInstance, PlainSignature, PlainTypeDecl, PlainValue};
 use psc_plain_parts::{
     Desugar, Mark, Stop, constraints, instance_names, kind, mark_at, marks_of_decls, signature,
@@ -41,6 +41,12 @@ impl Declared {
             kind: None,
         }
     }
+
+    /// What stood directly before stands no more so.
+    fn forget(&mut self) {
+        self.signature = None;
+        self.kind = None;
+    }
 }
 
 /// All declarations in plain forms.
@@ -75,35 +81,57 @@ fn add_decl(
     names: &mut Vec<Ident>,
     declared: &mut Declared,
 ) -> Result<(), Stop> {
-    let signature = declared.signature.take();
-    let kind = declared.kind.take();
     match decl {
         Decl::Sig(sig) => Ok(note_signature(state.alloc, sig, declared)?),
         Decl::KindSig { kind: written, .. } => Ok(note_kind(state.alloc, written, declared)?),
-        Decl::Clause(clause) => declared.values.add(state, clause, mark, signature),
-        Decl::Instance(instance) => add_instance(state, instance, names, declared),
-        Decl::ForeignValue { sig, span } => Ok(add_foreign(state.alloc, sig, *span, declared)?),
+        Decl::Clause(clause) => add_clause(state, clause, mark, declared),
+        Decl::Instance(instance) => {
+            declared.forget();
+            add_instance(state, instance, names, declared)
+        }
+        Decl::ForeignValue { sig, span } => {
+            declared.forget();
+            Ok(add_foreign(state.alloc, sig, *span, declared)?)
+        }
         Decl::Fixity(fixity) => {
-            let fixity = copy_of(fixity)?;
-            declared.fixities.push(fixity)?;
-            Ok(())
+            declared.forget();
+            Ok(add_fixity(fixity, declared)?)
         }
         Decl::XData(_)
         | Decl::Newtype(_)
         | Decl::Synonym(_)
         | Decl::Class(_)
-        | Decl::ForeignData { .. } => add_type(state, decl, kind, declared),
+        | Decl::ForeignData { .. } => add_type(state, decl, declared),
     }
+}
+
+fn add_clause(
+    state: &mut Desugar,
+    clause: &Clause,
+    mark: Mark,
+    declared: &mut Declared,
+) -> Result<(), Stop> {
+    let signature = declared.signature.take();
+    declared.forget();
+    declared.values.add(state, clause, mark, signature)
+}
+
+fn add_fixity(fixity: &FixityDecl, declared: &mut Declared) -> Result<(), NoMemory> {
+    let fixity = copy_of(fixity)?;
+    declared.fixities.push(fixity)?;
+    Ok(())
 }
 
 fn note_signature(alloc: Global, sig: &Sig, declared: &mut Declared) -> Result<(), NoMemory> {
     let signature = signature(alloc, sig)?;
+    declared.forget();
     declared.signature = Some(signature);
     Ok(())
 }
 
 fn note_kind(alloc: Global, written: &KindTree, declared: &mut Declared) -> Result<(), NoMemory> {
     let kind = kind(alloc, written)?;
+    declared.forget();
     declared.kind = Some(kind);
     Ok(())
 }
@@ -131,12 +159,9 @@ fn foreign_of(alloc: Global, sig: &Sig, span: Span) -> Result<PlainForeign, NoMe
     }
 }
 
-fn add_type(
-    state: &mut Desugar,
-    decl: &Decl,
-    stated: Option<Kind>,
-    declared: &mut Declared,
-) -> Result<(), Stop> {
+fn add_type(state: &mut Desugar, decl: &Decl, declared: &mut Declared) -> Result<(), Stop> {
+    let stated = declared.kind.take();
+    declared.forget();
     match type_of(state, decl, stated) {
         Ok(Some(one)) => {
             declared.types.push(one)?;
@@ -159,7 +184,10 @@ fn type_of(
         Decl::Synonym(synonym) => synonym_of(state, synonym, stated),
         Decl::Class(class) => class_of(state, class, stated),
         Decl::ForeignData { name, kind, span } => Ok(foreign_data_of(
-            state.alloc, name, kind, *span,
+            state.alloc,
+            name,
+            kind,
+            *span,
         )?),
         Decl::KindSig { .. }
         | Decl::ForeignValue { .. }

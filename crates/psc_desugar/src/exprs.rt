@@ -106,11 +106,7 @@ fn exprs(state: &mut Desugar, trees: &[ExprTree]) -> Result<Items<PlainExpr>, St
 }
 
 #[cycle(exprs)]
-fn add_expr(
-    state: &mut Desugar,
-    tree: &ExprTree,
-    list: &mut Items<PlainExpr>,
-) -> Result<(), Stop> {
+fn add_expr(state: &mut Desugar, tree: &ExprTree, list: &mut Items<PlainExpr>) -> Result<(), Stop> {
     let one = expr(state, tree)?;
     list.push(one)?;
     Ok(())
@@ -146,7 +142,13 @@ fn if_alternatives(state: &mut Desugar, tree: &ExprTree) -> Result<Items<PlainAl
             span: *span,
         };
         add_if(state, then.get(), holds, *span, &mut list)?;
-        add_if(state, otherwise.get(), PlainBinder::Wild { span: *span }, *span, &mut list)?;
+        add_if(
+            state,
+            otherwise.get(),
+            PlainBinder::Wild { span: *span },
+            *span,
+            &mut list,
+        )?;
     }
     Ok(list)
 }

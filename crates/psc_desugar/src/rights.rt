@@ -145,9 +145,11 @@ fn test_of(state: &mut Desugar, test: &Test) -> Result<PlainTest, Stop> {
             span,
         } => {
             let binder = binder_alone(state, bound)?;
-            let value = expr(state, value);
-            enter_names(&mut state.scope, bound)?;
-            binding_test(binder, value, *span)
+            let test = binding_test(binder, expr(state, value), *span)?;
+            match enter_names(&mut state.scope, bound) {
+                Ok(()) => Ok(test),
+                Err(_) => Err(Stop::NoMemory),
+            }
         }
     }
 }

@@ -159,11 +159,7 @@ fn add_run(state: &mut Desugar, value: &ExprTree, steps: &mut Vec<Step>) -> Resu
     Ok(())
 }
 
-fn step_of(
-    function: Result<PlainExpr, Stop>,
-    handed: Handed,
-    span: Span,
-) -> Result<Step, Stop> {
+fn step_of(function: Result<PlainExpr, Stop>, handed: Handed, span: Span) -> Result<Step, Stop> {
     match function {
         Ok(function) => Ok(Step::Call {
             function,

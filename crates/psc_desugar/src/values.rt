@@ -83,11 +83,7 @@ pub(crate) fn members_of(
     Ok(values.take(state.alloc))
 }
 
-fn add_members(
-    state: &mut Desugar,
-    members: &[Clause],
-    values: &mut Values,
-) -> Result<(), Stop> {
+fn add_members(state: &mut Desugar, members: &[Clause], values: &mut Values) -> Result<(), Stop> {
     let marks = marks_of_members(state.alloc, members)?;
     let mut place: usize = 0;
     for clause in members {

@@ -1,6 +1,5 @@
 -- Plain expressions that several written forms become.
-use Rattle.std.specs.Prelude.{ℕ, Bool, true, false, List, [], ◌∷◌, IsTrue}
-use Rattle.std.specs.List.{All}
+use Rattle.std.specs.Prelude.{ℕ, Bool, true, false, List, [], ◌∷◌}
 use Rattle.psc_text.specs.declared.span.Span.{Span}
 use Rattle.psc_text.specs.declared.names.Ident.{Ident}
 use Rattle.psc_ast.specs.declared.binders.BinderTree.{BinderTree}
@@ -13,13 +12,10 @@ use Rattle.psc_plain.specs.declared.exprs.PlainRhs.{PlainRhs}
 use Rattle.psc_plain.specs.declared.exprs.PlainRhs.TheVariants as rhs
 use Rattle.psc_plain_parts.specs.Made as made
 
+-- no parentheses stand round a variable
 abbrev pub is_variable : BinderTree → Bool
 is_variable (binder.Variable x) = true
 is_variable _ = false
-
--- no parentheses stand round a variable
-abbrev pub AreVariables : List BinderTree → Type 0
-AreVariables ts = All (λ t. IsTrue (is_variable t)) ts
 
 -- a function applied to one argument
 abbrev pub application : PlainExpr → PlainExpr → Span → PlainExpr

@@ -2,7 +2,8 @@
 //!
 //! The names that a binder binds come into scope at once, and are counted in the list in which it stands.
 
-ghost use Rattle.std.specs.Prelude.{◌≡◌, ◌↔◌, IsTrue};
+ghost use Rattle.std.specs.Prelude.{◌≡◌};
+ghost use Rattle.std.specs.List.{list_all};
 ghost use Rattle.psc_plain_parts.specs.Forms as spec;
 
 use crate::scope::Scope;
@@ -381,14 +382,9 @@ pub fn is_variable(tree: &BinderTree) -> bool
 
 /// Whether all binders are variables, and no parentheses stand round them.
 pub fn all_variables(trees: &[BinderTree]) -> bool
-    ensures { IsTrue result ↔ spec.AreVariables trees.now }
+    ensures { result ≡ list_all spec.is_variable trees.now }
 {
-    for tree in trees {
-        if !is_variable(tree) {
-            return false;
-        }
-    }
-    true
+    trees.iter().all(|tree| is_variable(tree))
 }
 
 /// Brings the names that a binder binds into scope.

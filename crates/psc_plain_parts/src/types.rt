@@ -128,12 +128,12 @@ fn with_argument(
     }
 }
 
-/// A type applied to one that is written.
+/// What is applied to a type that is written. The written one stands first, since the recursion is by it.
 #[cycle(types)]
 fn applied_to(
     alloc: Global,
-    function: PlainType,
     argument: &TypeTree,
+    function: PlainType,
     span: Span,
 ) -> Result<PlainType, NoMemory> {
     match typ(alloc, argument) {
@@ -152,8 +152,8 @@ fn operation(alloc: Global, tree: &TypeTree) -> Result<PlainType, NoMemory> {
             span,
         } => {
             let function = constructor(op)?;
-            let one = applied_to(alloc, function, left.get(), *span)?;
-            applied_to(alloc, one, right.get(), *span)
+            let one = applied_to(alloc, left.get(), function, *span)?;
+            applied_to(alloc, right.get(), one, *span)
         }
         _ => built_in(alloc, "Function", tree.span()),
     }
@@ -172,7 +172,7 @@ fn applied(alloc: Global, tree: &TypeTree) -> Result<PlainType, NoMemory> {
             let mut whole = typ(alloc, function.get())?;
             for argument in arguments.as_slice() {
                 let span = start.to(argument.span());
-                whole = applied_to(alloc, whole, argument, span)?;
+                whole = applied_to(alloc, argument, whole, span)?;
             }
             Ok(whole)
         }
