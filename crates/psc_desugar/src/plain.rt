@@ -17,8 +17,8 @@ use std::alloc::Global;
 /// as the first one of its name; OverlappingNamesInLet at a name that stands twice in one binder list, `let` or head;
 /// DuplicateLabel at a label that stands twice in a record or an update.
 pub fn desugar(alloc: Global, module: Module) -> Result<Result<Plain, PsError>, NoMemory>
-    ensures kept { IfOk result (λ r. IfOk r (spec.Keeps module)) }
-    ensures wrong { IfOk result (λ r. IfErr r (spec.IsWrong module.name.name)) }
+    ensures kept { IfOk result (λ r. IfOk r (spec.Keeps «module»)) }
+    ensures wrong { IfOk result (λ r. IfErr r (spec.IsWrong «module».name.name)) }
 {
     let mut state = Desugar::new(alloc);
     match all_decls(&mut state, module.decls.as_slice()) {
@@ -29,7 +29,7 @@ pub fn desugar(alloc: Global, module: Module) -> Result<Result<Plain, PsError>, 
 }
 
 fn joined(alloc: Global, module: Module, declared: Declared) -> Plain
-    ensures { spec.Keeps module result }
+    ensures { spec.Keeps «module» result }
 {
     let mut declared = declared;
     let values = declared.values.take(alloc);
