@@ -69,7 +69,14 @@ impl Rows {
     /// Notes what a row gave where it should have given something else.
     fn differ(&mut self, got: &str, want: &str) -> Result<(), NoMemory> {
         self.differing = self.differing.saturating_add(1);
-        for part in [self.name.as_str(), "\n  got  ", got, "\n  want ", want, "\n"] {
+        for part in [
+            self.name.as_str(),
+            "\n  got  ",
+            got,
+            "\n  want ",
+            want,
+            "\n",
+        ] {
             self.report.push_str(part)?;
         }
         Ok(())

@@ -1,280 +1,271 @@
 //! Declarations in plain forms.
 
-use crate::binds::{value_of_decls, value_of_members};
-use crate::names::instance_names;
-use crate::runs::{end_of_run, runs_of_members};
-use crate::state::Desugar;
-use crate::stop::Stop;
-use crate::types::{constraints, head_vars, kind, signature, typ, typs};
-use psc_ast::{
-    ClassDecl, Clause, DataDecl, Decl, Dep, IdentAt, InstanceDecl, SynonymDecl, TypeVar,
+ghost use Rattle.std.specs.Prelude.{◌≡◌, IfOk};
+
+use crate::type_decls::{class_of, data_of, foreign_data_of, synonym_of};
+use crate::values::{Values, members_of};
+use psc_ast::{Clause, Decl, FixityDecl, InstanceDecl, KindTree, Mention, OpAt, Sig};
+use psc_plain::{PlainForeign, PlainInstance, PlainSignature, PlainTypeDecl, PlainValue};
+use psc_plain_parts::{
+    Desugar, Mark, Stop, constraints, instance_names, kind, mark_at, marks_of_decls, signature,
+    typ, typs,
 };
-use psc_plain::{
-    PlainClass, PlainCtor, PlainData, PlainDep, PlainForeign, PlainInstance, PlainMember,
-    PlainSynonym, PlainTypeDecl, PlainValue,
-};
-use psc_text::{Ident, NoMemory, Text};
+use psc_text::{Ident, NoMemory, Span};
 use psc_type::Kind;
 use sqlite_items::Items;
-use std::collections::BTreeMap;
+use std::alloc::Global;
 
-/// The plain declarations of a module by what they declare.
+/// The plain declarations of a module by what they declare, each kind of them in the order of the source.
 #[derive(Drop)]
 pub(crate) struct Declared {
     pub types: Items<PlainTypeDecl>,
-    pub values: Items<PlainValue>,
+    pub values: Values,
     pub foreigns: Items<PlainForeign>,
     pub instances: Items<PlainInstance>,
+    pub fixities: Items<FixityDecl>,
+    /// The signature directly before.
+    signature: Option<PlainSignature>,
+    /// The kind that a kind signature directly before states.
+    kind: Option<Kind>,
 }
 
-/// All declarations in plain forms, each kind of them in the order of the source.
-pub(crate) fn all_decls(state: &mut Desugar, decls: &[Decl]) -> Result<Declared, Stop> {
-    let mut declared = Declared {
-        types: Items::new(state.alloc),
-        values: Items::new(state.alloc),
-        foreigns: Items::new(state.alloc),
-        instances: Items::new(state.alloc),
-    };
-    let mut names = instance_names(state.alloc, decls)?.into_iter();
-    let mut end = 0;
-    for (place, decl) in decls.iter().enumerate() {
-        state.begin();
-        match decl {
-            Decl::Clause(_) => {
-                if place >= end {
-                    end = end_of_run(decls, place);
-                    declared.values.push(value_of(state, decls, place, end)?)?;
-                }
-            }
-            Decl::Instance(instance) => {
-                if let Some(name) = names.next() {
-                    declared
-                        .instances
-                        .push(instance_of(state, instance, name)?)?;
-                }
-            }
-            Decl::ForeignValue { sig, span } => declared.foreigns.push(PlainForeign {
-                name: sig.name.name.clone()?,
-                name_span: sig.name.span,
-                x_type: typ(state, &sig.x_type)?,
-                span: *span,
-            })?,
-            Decl::Sig(_) | Decl::KindSig { .. } | Decl::Fixity(_) => (),
-            _ => declared.types.push(type_of(state, decls, place, decl)?)?,
+impl Declared {
+    fn none(alloc: Global) -> Declared {
+        Declared {
+            types: Items::new(alloc),
+            values: Values::none(alloc),
+            foreigns: Items::new(alloc),
+            instances: Items::new(alloc),
+            fixities: Items::new(alloc),
+            signature: None,
+            kind: None,
         }
     }
-    Ok(declared)
-}
 
-/// The declaration before a place.
-fn before(decls: &[Decl], place: usize) -> Option<&Decl> {
-    decls.get(place.checked_sub(1)?)
-}
-
-/// The value that the clauses from a place on make.
-fn value_of(
-    state: &mut Desugar,
-    decls: &[Decl],
-    place: usize,
-    end: usize,
-) -> Result<PlainValue, Stop> {
-    let Some(Decl::Clause(first)) = decls.get(place) else {
-        return Err(Stop::NoMemory);
-    };
-    let signature = match before(decls, place) {
-        Some(Decl::Sig(sig)) => Some(signature(state, sig)?),
-        _ => None,
-    };
-    let body = match decls.get(place..end) {
-        Some(run) => value_of_decls(state, run)?,
-        None => return Err(Stop::NoMemory),
-    };
-    Ok(PlainValue {
-        name: first.name.name.clone()?,
-        name_span: first.name.span,
-        signature,
-        body,
-        span: first.span,
-    })
-}
-
-/// The kind that a kind signature before a declaration states.
-fn stated_kind(state: &Desugar, decls: &[Decl], place: usize) -> Result<Option<Kind>, NoMemory> {
-    match before(decls, place) {
-        Some(Decl::KindSig { kind: written, .. }) => Ok(Some(kind(state.alloc, written)?)),
-        _ => Ok(None),
+    /// What stood directly before stands no more so.
+    fn forget(&mut self) {
+        self.signature = None;
+        self.kind = None;
     }
 }
 
+/// All declarations in plain forms.
+pub(crate) fn all_decls(state: &mut Desugar, decls: &[Decl]) -> Result<Declared, Stop> {
+    let mut declared = Declared::none(state.alloc);
+    match add_decls(state, decls, &mut declared) {
+        Ok(()) => Ok(declared),
+        Err(stop) => Err(stop),
+    }
+}
+
+fn add_decls(state: &mut Desugar, decls: &[Decl], declared: &mut Declared) -> Result<(), Stop> {
+    let marks = marks_of_decls(state.alloc, decls)?;
+    let mut names = instance_names(state.alloc, decls)?;
+    names.reverse();
+    let mut place: usize = 0;
+    for decl in decls {
+        let mark = mark_at(&marks, place);
+        place = place.saturating_add(1);
+        if mark.begins {
+            state.begin();
+        }
+        add_decl(state, decl, mark, &mut names, declared)?;
+    }
+    Ok(())
+}
+
+fn add_decl(
+    state: &mut Desugar,
+    decl: &Decl,
+    mark: Mark,
+    names: &mut Vec<Ident>,
+    declared: &mut Declared,
+) -> Result<(), Stop> {
+    match decl {
+        Decl::Sig(sig) => Ok(note_signature(state.alloc, sig, declared)?),
+        Decl::KindSig { kind: written, .. } => Ok(note_kind(state.alloc, written, declared)?),
+        Decl::Clause(clause) => add_clause(state, clause, mark, declared),
+        Decl::Instance(instance) => {
+            declared.forget();
+            add_instance(state, instance, names, declared)
+        }
+        Decl::ForeignValue { sig, span } => {
+            declared.forget();
+            Ok(add_foreign(state.alloc, sig, *span, declared)?)
+        }
+        Decl::Fixity(fixity) => {
+            declared.forget();
+            Ok(add_fixity(fixity, declared)?)
+        }
+        Decl::XData(_)
+        | Decl::Newtype(_)
+        | Decl::Synonym(_)
+        | Decl::Class(_)
+        | Decl::ForeignData { .. } => add_type(state, decl, declared),
+    }
+}
+
+fn add_clause(
+    state: &mut Desugar,
+    clause: &Clause,
+    mark: Mark,
+    declared: &mut Declared,
+) -> Result<(), Stop> {
+    let signature = declared.signature.take();
+    declared.forget();
+    declared.values.add(state, clause, mark, signature)
+}
+
+fn add_fixity(fixity: &FixityDecl, declared: &mut Declared) -> Result<(), NoMemory> {
+    let fixity = copy_of(fixity)?;
+    declared.fixities.push(fixity)?;
+    Ok(())
+}
+
+fn note_signature(alloc: Global, sig: &Sig, declared: &mut Declared) -> Result<(), NoMemory> {
+    let signature = signature(alloc, sig)?;
+    declared.forget();
+    declared.signature = Some(signature);
+    Ok(())
+}
+
+fn note_kind(alloc: Global, written: &KindTree, declared: &mut Declared) -> Result<(), NoMemory> {
+    let kind = kind(alloc, written)?;
+    declared.forget();
+    declared.kind = Some(kind);
+    Ok(())
+}
+
+fn add_foreign(
+    alloc: Global,
+    sig: &Sig,
+    span: Span,
+    declared: &mut Declared,
+) -> Result<(), NoMemory> {
+    let foreign = foreign_of(alloc, sig, span)?;
+    declared.foreigns.push(foreign)?;
+    Ok(())
+}
+
+fn foreign_of(alloc: Global, sig: &Sig, span: Span) -> Result<PlainForeign, NoMemory> {
+    match typ(alloc, &sig.x_type) {
+        Ok(x_type) => Ok(PlainForeign {
+            name: sig.name.name.clone()?,
+            name_span: sig.name.span,
+            x_type,
+            span,
+        }),
+        Err(error) => Err(error),
+    }
+}
+
+fn add_type(state: &mut Desugar, decl: &Decl, declared: &mut Declared) -> Result<(), Stop> {
+    let stated = declared.kind.take();
+    declared.forget();
+    match type_of(state, decl, stated) {
+        Ok(Some(one)) => {
+            declared.types.push(one)?;
+            Ok(())
+        }
+        Ok(None) => Ok(()),
+        Err(stop) => Err(stop),
+    }
+}
+
+/// A type, a synonym or a class; None of what is none.
 fn type_of(
     state: &mut Desugar,
-    decls: &[Decl],
-    place: usize,
     decl: &Decl,
-) -> Result<PlainTypeDecl, Stop> {
-    let stated = stated_kind(state, decls, place)?;
+    stated: Option<Kind>,
+) -> Result<Option<PlainTypeDecl>, Stop> {
     match decl {
-        Decl::XData(data) => Ok(PlainTypeDecl::XData(data_of(state, data, false, stated)?)),
-        Decl::Newtype(data) => Ok(PlainTypeDecl::XData(data_of(state, data, true, stated)?)),
-        Decl::Synonym(synonym) => Ok(PlainTypeDecl::Synonym(synonym_of(state, synonym, stated)?)),
-        Decl::Class(class) => Ok(PlainTypeDecl::Class(class_of(state, class, stated)?)),
-        Decl::ForeignData {
+        Decl::XData(data) => data_of(state, data, false, stated),
+        Decl::Newtype(data) => data_of(state, data, true, stated),
+        Decl::Synonym(synonym) => synonym_of(state, synonym, stated),
+        Decl::Class(class) => class_of(state, class, stated),
+        Decl::ForeignData { name, kind, span } => Ok(foreign_data_of(
+            state.alloc,
             name,
-            kind: written,
-            span,
-        } => Ok(PlainTypeDecl::Foreign {
-            name: name.name.clone()?,
-            name_span: name.span,
-            kind: kind(state.alloc, written)?,
-            span: *span,
-        }),
-        _ => Err(Stop::NoMemory),
+            kind,
+            *span,
+        )?),
+        Decl::KindSig { .. }
+        | Decl::ForeignValue { .. }
+        | Decl::Instance(_)
+        | Decl::Fixity(_)
+        | Decl::Sig(_)
+        | Decl::Clause(_) => Ok(None),
     }
 }
 
-fn data_of(
+fn add_instance(
     state: &mut Desugar,
-    data: &DataDecl,
-    is_newtype: bool,
-    stated: Option<Kind>,
-) -> Result<PlainData, Stop> {
-    let vars = head_vars(state, data.vars.as_slice())?;
-    let mut ctors = Items::new(state.alloc);
-    for ctor in data.ctors.as_slice() {
-        ctors.push(PlainCtor {
-            name: ctor.name.name.clone()?,
-            name_span: ctor.name.span,
-            fields: typs(state, ctor.fields.as_slice())?,
-            span: ctor.span,
-        })?;
-    }
-    Ok(PlainData {
-        name: data.name.name.clone()?,
-        name_span: data.name.span,
-        is_newtype,
-        kind: stated,
-        vars,
-        ctors,
-        span: data.span,
-    })
-}
-
-fn synonym_of(
-    state: &mut Desugar,
-    synonym: &SynonymDecl,
-    stated: Option<Kind>,
-) -> Result<PlainSynonym, Stop> {
-    Ok(PlainSynonym {
-        name: synonym.name.name.clone()?,
-        name_span: synonym.name.span,
-        kind: stated,
-        vars: head_vars(state, synonym.vars.as_slice())?,
-        body: typ(state, &synonym.body)?,
-        span: synonym.span,
-    })
-}
-
-fn class_of(
-    state: &mut Desugar,
-    class: &ClassDecl,
-    stated: Option<Kind>,
-) -> Result<PlainClass, Stop> {
-    let supers = constraints(state, class.supers.as_slice())?;
-    let vars = head_vars(state, class.vars.as_slice())?;
-    let places = var_places(state, class.vars.as_slice())?;
-    let mut deps = Items::new(state.alloc);
-    for dep in class.deps.as_slice() {
-        deps.push(dep_of(state, &places, dep)?)?;
-    }
-    let mut members = Items::new(state.alloc);
-    for member in class.members.as_slice() {
-        members.push(PlainMember {
-            name: member.name.name.clone()?,
-            name_span: member.name.span,
-            x_type: typ(state, &member.x_type)?,
-            span: member.span,
-        })?;
-    }
-    Ok(PlainClass {
-        name: class.name.name.clone()?,
-        name_span: class.name.span,
-        kind: stated,
-        supers,
-        vars,
-        deps,
-        members,
-        span: class.span,
-    })
-}
-
-/// The places of a class's variables.
-fn var_places(state: &Desugar, vars: &[TypeVar]) -> Result<BTreeMap<Text, u32>, NoMemory> {
-    let mut places = BTreeMap::new(state.alloc);
-    let mut place: u32 = 0;
-    for var in vars {
-        let _before = places.insert(var.name.name.0.clone()?, place)?;
-        place = place.checked_add(1).ok_or(NoMemory)?;
-    }
-    Ok(places)
-}
-
-fn dep_of(state: &Desugar, places: &BTreeMap<Text, u32>, dep: &Dep) -> Result<PlainDep, NoMemory> {
-    Ok(PlainDep {
-        from: places_of(state, places, dep.from.as_slice())?,
-        to: places_of(state, places, dep.to.as_slice())?,
-    })
-}
-
-fn places_of(
-    state: &Desugar,
-    places: &BTreeMap<Text, u32>,
-    names: &[IdentAt],
-) -> Result<Items<u32>, NoMemory> {
-    let mut list = Items::new(state.alloc);
-    for name in names {
-        if let Some(place) = places.get(&name.name.0) {
-            list.push(*place)?;
-        }
-    }
-    Ok(list)
+    instance: &InstanceDecl,
+    names: &mut Vec<Ident>,
+    declared: &mut Declared,
+) -> Result<(), Stop> {
+    let members = members_of(state, instance.members.as_slice())?;
+    let Some(name) = names.pop() else {
+        return Ok(());
+    };
+    let made = instance_of(state.alloc, instance, name, members)?;
+    declared.instances.push(made)?;
+    Ok(())
 }
 
 fn instance_of(
-    state: &mut Desugar,
+    alloc: Global,
     instance: &InstanceDecl,
     name: Ident,
-) -> Result<PlainInstance, Stop> {
-    let context = constraints(state, instance.context.as_slice())?;
-    let head = typs(state, instance.arguments.as_slice())?;
-    let members = instance.members.as_slice();
-    let mut values = Items::new(state.alloc);
-    for run in &runs_of_members(state.alloc, members)? {
-        if let Some(clauses) = members.get(run.from..run.to) {
-            values.push(member_of(state, clauses)?)?;
+    members: Items<PlainValue>,
+) -> Result<PlainInstance, NoMemory> {
+    match instance.class.name.clone() {
+        Ok(class) => {
+            let mut made = PlainInstance {
+                name,
+                goes_on: instance.goes_on,
+                context: Items::new(alloc),
+                class,
+                class_span: instance.class.span,
+                head: Items::new(alloc),
+                members,
+                span: instance.span,
+            };
+            fill_instance(alloc, instance, &mut made)?;
+            Ok(made)
         }
+        Err(_) => Err(NoMemory),
     }
-    Ok(PlainInstance {
-        name,
-        goes_on: instance.goes_on,
-        context,
-        class: instance.class.name.clone()?,
-        class_span: instance.class.span,
-        head,
-        members: values,
-        span: instance.span,
-    })
 }
 
-fn member_of(state: &mut Desugar, clauses: &[Clause]) -> Result<PlainValue, Stop> {
-    let Some(first) = clauses.first() else {
-        return Err(Stop::NoMemory);
-    };
-    let body = value_of_members(state, clauses)?;
-    Ok(PlainValue {
-        name: first.name.name.clone()?,
-        name_span: first.name.span,
-        signature: None,
-        body,
-        span: first.span,
-    })
+fn fill_instance(
+    alloc: Global,
+    instance: &InstanceDecl,
+    made: &mut PlainInstance,
+) -> Result<(), NoMemory> {
+    made.context = constraints(alloc, instance.context.as_slice())?;
+    made.head = typs(alloc, instance.arguments.as_slice())?;
+    Ok(())
+}
+
+fn copy_of(fixity: &FixityDecl) -> Result<FixityDecl, NoMemory>
+    ensures { IfOk result (λ copy. copy ≡ fixity.now) }
+{
+    match fixity.target.name.clone() {
+        Ok(name) => Ok(FixityDecl {
+            side: fixity.side,
+            power: fixity.power,
+            of_types: fixity.of_types,
+            target: Mention {
+                name,
+                span: fixity.target.span,
+            },
+            op: OpAt {
+                op: fixity.op.op.clone()?,
+                span: fixity.op.span,
+            },
+            span: fixity.span,
+        }),
+        Err(_) => Err(NoMemory),
+    }
 }

@@ -6,19 +6,19 @@
 //! first tokens of the forms that need them.
 #![tactic(auto)]
 
-mod binders;
+mod ado;
 mod binds;
-mod build;
+mod calls;
+mod clauses;
 mod decls;
 mod exprs;
-mod groups;
-mod names;
+mod functions;
+mod heads;
+mod layers;
 mod plain;
-mod runs;
-mod scope;
-mod state;
+mod rights;
 mod statements;
-mod stop;
-mod types;
+mod type_decls;
+mod values;
 
 pub use plain::desugar;

@@ -1,13 +1,14 @@
 //! From the module as it is written to its plain form.
 
+ghost use Rattle.std.specs.Prelude.{◌≡◌, IfOk, IfErr};
+ghost use Rattle.psc_desugar.specs.Module as spec;
+
 use crate::decls::{Declared, all_decls};
-use crate::state::Desugar;
-use crate::stop::{Stop, error_of};
-use psc_ast::{Decl, FixityDecl, Mention, Module, OpAt};
+use psc_ast::Module;
 use psc_error::PsError;
 use psc_plain::Plain;
+use psc_plain_parts::{Desugar, Stop, error_of};
 use psc_text::NoMemory;
-use sqlite_items::Items;
 use std::alloc::Global;
 
 /// The plain form of a module whose names are resolved and that has no chains.
@@ -15,68 +16,32 @@ use std::alloc::Global;
 /// Wrong with the first of these in the order of the source: ArgListLengthsDiffer at a clause that has not as many arguments
 /// as the first one of its name; OverlappingNamesInLet at a name that stands twice in one binder list, `let` or head;
 /// DuplicateLabel at a label that stands twice in a record or an update.
-pub fn desugar(alloc: Global, module: Module) -> Result<Result<Plain, PsError>, NoMemory> {
-    let mut state = Desugar::new(alloc)?;
+pub fn desugar(alloc: Global, module: Module) -> Result<Result<Plain, PsError>, NoMemory>
+    ensures kept { IfOk result (λ r. IfOk r (spec.Keeps «module»)) }
+    ensures wrong { IfOk result (λ r. IfErr r (spec.IsWrong «module».name.name)) }
+{
+    let mut state = Desugar::new(alloc);
     match all_decls(&mut state, module.decls.as_slice()) {
-        Ok(declared) => Ok(Ok(joined(alloc, module, declared)?)),
+        Ok(declared) => Ok(Ok(joined(alloc, module, declared))),
         Err(Stop::NoMemory) => Err(NoMemory),
         Err(Stop::Wrong(problem)) => Ok(Err(error_of(alloc, &module.name.name, problem)?)),
     }
 }
 
-fn joined(alloc: Global, module: Module, declared: Declared) -> Result<Plain, NoMemory> {
-    let Declared {
-        types,
+fn joined(alloc: Global, module: Module, declared: Declared) -> Plain
+    ensures { spec.Keeps «module» result }
+{
+    let mut declared = declared;
+    let values = declared.values.take(alloc);
+    Plain {
+        name: module.name,
+        header: module.header,
+        imports: module.imports,
+        types: declared.types,
         values,
-        foreigns,
-        instances,
-    } = declared;
-    let fixities = fixities_of(alloc, module.decls.as_slice())?;
-    let Module {
-        name,
-        header,
-        where_line: _,
-        exports: _,
-        imports,
-        decls: _,
-        span,
-    } = module;
-    Ok(Plain {
-        name,
-        header,
-        imports,
-        types,
-        values,
-        foreigns,
-        instances,
-        fixities,
-        span,
-    })
-}
-
-fn fixities_of(alloc: Global, decls: &[Decl]) -> Result<Items<FixityDecl>, NoMemory> {
-    let mut list = Items::new(alloc);
-    for decl in decls {
-        if let Decl::Fixity(fixity) = decl {
-            list.push(copy_of(fixity)?)?;
-        }
+        foreigns: declared.foreigns,
+        instances: declared.instances,
+        fixities: declared.fixities,
+        span: module.span,
     }
-    Ok(list)
-}
-
-fn copy_of(fixity: &FixityDecl) -> Result<FixityDecl, NoMemory> {
-    Ok(FixityDecl {
-        side: fixity.side,
-        power: fixity.power,
-        of_types: fixity.of_types,
-        target: Mention {
-            name: fixity.target.name.clone()?,
-            span: fixity.target.span,
-        },
-        op: OpAt {
-            op: fixity.op.op.clone()?,
-            span: fixity.op.span,
-        },
-        span: fixity.span,
-    })
 }

@@ -1,20 +1,16 @@
-//! The statements of `do` and `ado` in plain forms.
+//! The statements of `do` in plain forms.
 //!
-//! Resolving made the value of each statement that is handed on a call of one argument: of `bind` or `discard` in a `do`, of
-//! `map` or `apply` in an `ado`.
+//! Resolving made the value of each statement that is handed on a call of `bind` or `discard` with one argument.
 
-use crate::binders::binder;
-use crate::binds::{Layer, Place, add_layers, wrap};
-use crate::build::{alternative, application, case_of_one, lambda, made, made_all, made_lambdas};
+use crate::binds::layers_of;
 use crate::exprs::expr;
-use crate::state::Desugar;
-use crate::stop::Stop;
-use psc_ast::{BinderTree, ExprTree, Stmt};
-use psc_plain::{PlainAlt, PlainBinder, PlainExpr, PlainRhs};
-use psc_text::{Ident, NoMemory, Span, Text};
-use sqlite_items::{Boxed, Items};
-use std::alloc::Global;
-use std::mem;
+use crate::layers::{Layer, Place, wrap};
+use psc_ast::{BinderTree, ExprTree, IdentAt, Stmt};
+use psc_plain::{PlainAlt, PlainBinder, PlainExpr};
+use psc_plain_parts::{
+    Desugar, Stop, alternative, application, binder_alone, case_of_one, enter_names, lambda, made,
+};
+use psc_text::{Ident, NoMemory, Span};
 
 /// What a statement's value is handed: a function of what the statement binds.
 #[derive(Drop)]
@@ -46,85 +42,141 @@ pub(crate) fn do_block(
     span: Span,
 ) -> Result<PlainExpr, Stop> {
     let mut steps = Vec::new(state.alloc);
-    let mut last = None;
-    for (place, statement) in statements.iter().enumerate() {
-        let is_last = place.saturating_add(1) == statements.len();
-        match statement {
-            Stmt::Run { value } if is_last => last = Some(expr(state, value)?),
-            _ => steps.push(step_of(state, statement)?)?,
+    let mut place: usize = 0;
+    for statement in statements {
+        place = place.saturating_add(1);
+        if place < statements.len() {
+            add_step(state, statement, &mut steps)?;
+        } else {
+            return last_of(state, statement, &mut steps, span);
         }
     }
-    match last {
-        Some(last) => Ok(wrap_steps(state, steps, last, span)?),
-        None => Err(Stop::NoMemory),
+    Err(Stop::NoMemory)
+}
+
+/// The last statement in the ones before it.
+#[cycle(exprs)]
+fn last_of(
+    state: &mut Desugar,
+    statement: &Stmt,
+    steps: &mut Vec<Step>,
+    span: Span,
+) -> Result<PlainExpr, Stop> {
+    match statement {
+        Stmt::Run { value } => {
+            let last = expr(state, value)?;
+            Ok(wrap_steps(state, steps, last, span)?)
+        }
+        // The last statement is an expression.
+        Stmt::Binds { .. } | Stmt::Let { .. } => Err(Stop::NoMemory),
     }
 }
 
+/// A statement behind which others stand.
 #[cycle(exprs)]
-fn step_of(state: &mut Desugar, statement: &Stmt) -> Result<Step, Stop> {
+fn add_step(state: &mut Desugar, statement: &Stmt, steps: &mut Vec<Step>) -> Result<(), Stop> {
     match statement {
         Stmt::Binds {
             binder: BinderTree::Variable { name },
             value,
             span,
-        } => {
-            let function = expr(state, value)?;
-            state.scope.enter(&name.name.0)?;
+        } => add_named(state, value, name, *span, steps),
+        Stmt::Binds {
+            binder,
+            value,
+            span,
+        } => add_matched(state, value, binder, *span, steps),
+        Stmt::Run { value } => add_run(state, value, steps),
+        Stmt::Let { binds, span } => {
+            let layers = layers_of(state, binds.as_slice())?;
+            steps.push(Step::Let {
+                layers,
+                span: *span,
+            })?;
+            Ok(())
+        }
+    }
+}
+
+/// `x <- e`
+#[cycle(exprs)]
+fn add_named(
+    state: &mut Desugar,
+    value: &ExprTree,
+    name: &IdentAt,
+    span: Span,
+    steps: &mut Vec<Step>,
+) -> Result<(), Stop> {
+    let function = expr(state, value)?;
+    let step = named_step(function, name, span)?;
+    steps.push(step)?;
+    state.scope.enter(&name.name.0)?;
+    Ok(())
+}
+
+fn named_step(function: PlainExpr, name: &IdentAt, span: Span) -> Result<Step, NoMemory> {
+    match name.name.clone() {
+        Ok(made) => {
             let handed = Handed::Named {
-                name: name.name.clone()?,
+                name: made,
                 span: name.span,
             };
             Ok(Step::Call {
                 function,
                 handed,
-                span: *span,
-            })
-        }
-        Stmt::Binds {
-            binder: bound,
-            value,
-            span,
-        } => {
-            let number = state.number()?;
-            let function = expr(state, value)?;
-            let mut names = state.names();
-            let binder = binder(state, bound, &mut names)?;
-            Ok(Step::Call {
-                function,
-                handed: Handed::Matched { number, binder },
-                span: *span,
-            })
-        }
-        Stmt::Run { value } => {
-            let number = state.number()?;
-            let span = value.span();
-            let function = expr(state, value)?;
-            Ok(Step::Call {
-                function,
-                handed: Handed::Made { number },
                 span,
             })
         }
-        Stmt::Let { binds, span } => {
-            let mut names = state.names();
-            let mut layers = Vec::new(state.alloc);
-            add_layers(state, binds.as_slice(), &mut names, &mut layers)?;
-            Ok(Step::Let {
-                layers,
-                span: *span,
-            })
-        }
+        Err(_) => Err(NoMemory),
+    }
+}
+
+/// `p <- e` with a binder that is no variable. The value does not see the binder's names.
+#[cycle(exprs)]
+fn add_matched(
+    state: &mut Desugar,
+    value: &ExprTree,
+    bound: &BinderTree,
+    span: Span,
+    steps: &mut Vec<Step>,
+) -> Result<(), Stop> {
+    let number = state.number()?;
+    let binder = binder_alone(state, bound)?;
+    let handed = Handed::Matched { number, binder };
+    let step = step_of(expr(state, value), handed, span)?;
+    steps.push(step)?;
+    enter_names(&mut state.scope, bound)?;
+    Ok(())
+}
+
+/// `e` alone
+#[cycle(exprs)]
+fn add_run(state: &mut Desugar, value: &ExprTree, steps: &mut Vec<Step>) -> Result<(), Stop> {
+    let number = state.number()?;
+    let handed = Handed::Made { number };
+    let step = step_of(expr(state, value), handed, value.span())?;
+    steps.push(step)?;
+    Ok(())
+}
+
+fn step_of(function: Result<PlainExpr, Stop>, handed: Handed, span: Span) -> Result<Step, Stop> {
+    match function {
+        Ok(function) => Ok(Step::Call {
+            function,
+            handed,
+            span,
+        }),
+        Err(stop) => Err(stop),
     }
 }
 
 /// Puts statements round the last one, from the last to the first.
 fn wrap_steps(
     state: &Desugar,
-    steps: Vec<Step>,
+    steps: &mut Vec<Step>,
     last: PlainExpr,
     span: Span,
 ) -> Result<PlainExpr, NoMemory> {
-    let mut steps = steps;
     let mut whole = last;
     for _ in 0..steps.len() {
         if let Some(step) = steps.pop() {
@@ -141,24 +193,26 @@ fn wrap_step(
     span: Span,
 ) -> Result<PlainExpr, NoMemory> {
     match step {
-        Step::Let { layers, span: at } => wrap(
-            state.alloc,
-            layers,
-            rest,
-            Place {
+        Step::Let { layers, span: at } => {
+            let mut layers = layers;
+            let place = Place {
                 of_where: false,
                 span: at.to(span_end(span)),
-            },
-        ),
+            };
+            wrap(state.alloc, &mut layers, rest, place)
+        }
         Step::Call {
             function,
             handed,
             span: at,
         } => {
-            let whole = at.to(span_end(span));
             let behind = rest.span();
-            let argument = handed_to(state, handed, rest, behind)?;
-            application(state.alloc, function, argument, whole)
+            match handed_to(state, handed, rest, behind) {
+                Ok(argument) => {
+                    application(state.alloc, function, argument, at.to(span_end(span)))
+                }
+                Err(error) => Err(error),
+            }
         }
     }
 }
@@ -181,201 +235,38 @@ fn handed_to(
 ) -> Result<PlainExpr, NoMemory> {
     match handed {
         Handed::Named { name, span: at } => lambda(state.alloc, name, at, body, span),
-        Handed::Made { number } => lambda(state.alloc, state.made(number)?, span, body, span),
+        Handed::Made { number } => made_lambda(state, number, body, span, span),
         Handed::Matched { number, binder } => {
             let at = binder.span();
             let alt = alternative(state.alloc, binder, body, span)?;
-            let whole = case_of_one(state.alloc, made(state, number, at)?, alt, span)?;
-            lambda(state.alloc, state.made(number)?, at, whole, span)
+            let whole = case_of_made(state, number, alt, at, span)?;
+            made_lambda(state, number, whole, at, span)
         }
     }
 }
 
-/// An `ado`: its steps' values under `map` and `apply`, with a function of what the steps bind.
-#[cycle(exprs)]
-pub(crate) fn ado(
-    state: &mut Desugar,
-    statements: &[Stmt],
-    value: &ExprTree,
-    span: Span,
-) -> Result<PlainExpr, Stop> {
-    let variables = steps_are_variables(statements);
-    let count = steps_of(statements);
-    let numbers = if variables {
-        Vec::new(state.alloc)
-    } else {
-        state.numbers(count)?
-    };
-    let mark = state.scope.mark();
-    let bound = step_binders(state, statements)?;
-    let mut inner = state.scope.since(mark)?;
-    state.scope.leave(mark);
-    let mut layers = Vec::new(state.alloc);
-    let mut calls = Vec::new(state.alloc);
-    for statement in statements {
-        match statement {
-            Stmt::Let { binds, .. } => {
-                state.scope.enter_all(&inner)?;
-                let before = state.scope.mark();
-                let mut names = state.names();
-                add_layers(state, binds.as_slice(), &mut names, &mut layers)?;
-                add_texts(&mut inner, state.scope.since(before)?)?;
-                state.scope.leave(mark);
-            }
-            Stmt::Binds { value, .. } | Stmt::Run { value } => calls.push(expr(state, value)?)?,
-        }
-    }
-    state.scope.enter_all(&inner)?;
-    let body = ado_result(state, value, layers, count, span)?;
-    if count == 0 {
-        return Ok(body);
-    }
-    let function = ado_function(state, bound, variables, &numbers, body, span)?;
-    Ok(ado_calls(state.alloc, calls, function, span)?)
-}
-
-/// The result in the `let`s. Where there is no step, `pure` stands round both.
-#[cycle(exprs)]
-fn ado_result(
-    state: &mut Desugar,
-    value: &ExprTree,
-    layers: Vec<Layer>,
-    count: usize,
-    span: Span,
-) -> Result<PlainExpr, Stop> {
-    let place = Place {
-        of_where: false,
-        span,
-    };
-    match value {
-        ExprTree::Call {
-            function,
-            arguments,
-            ..
-        } if count == 0 => {
-            let function = expr(state, function.get())?;
-            let mut whole = function;
-            let mut layers = layers;
-            for argument in arguments.as_slice() {
-                let argument = expr(state, argument)?;
-                let inside = wrap(
-                    state.alloc,
-                    mem::replace(&mut layers, Vec::new(state.alloc)),
-                    argument,
-                    place,
-                )?;
-                whole = application(state.alloc, whole, inside, span)?;
-            }
-            Ok(whole)
-        }
-        _ => {
-            let body = expr(state, value)?;
-            Ok(wrap(state.alloc, layers, body, place)?)
-        }
-    }
-}
-
-fn steps_of(statements: &[Stmt]) -> usize {
-    statements
-        .iter()
-        .filter(|one| !matches!(one, Stmt::Let { .. }))
-        .count()
-}
-
-/// Whether each step binds a variable.
-fn steps_are_variables(statements: &[Stmt]) -> bool {
-    statements.iter().all(|one| match one {
-        Stmt::Binds { binder, .. } => matches!(binder, BinderTree::Variable { .. }),
-        Stmt::Run { .. } => false,
-        Stmt::Let { .. } => true,
-    })
-}
-
-/// The binders of the steps, whose names stay bound; a step that binds nothing has `_`.
-fn step_binders(state: &mut Desugar, statements: &[Stmt]) -> Result<Items<PlainBinder>, Stop> {
-    let mut names = state.names();
-    let mut list = Items::new(state.alloc);
-    for statement in statements {
-        match statement {
-            Stmt::Binds { binder: bound, .. } => list.push(binder(state, bound, &mut names)?)?,
-            Stmt::Run { value } => list.push(PlainBinder::Wild { span: value.span() })?,
-            Stmt::Let { .. } => (),
-        }
-    }
-    Ok(list)
-}
-
-fn add_texts(list: &mut Vec<Text>, more: Vec<Text>) -> Result<(), NoMemory> {
-    for one in more {
-        list.push(one)?;
-    }
-    Ok(())
-}
-
-/// The function of what the steps bind.
-fn ado_function(
+fn made_lambda(
     state: &Desugar,
-    bound: Items<PlainBinder>,
-    variables: bool,
-    numbers: &[u32],
+    number: u32,
     body: PlainExpr,
+    at: Span,
     span: Span,
 ) -> Result<PlainExpr, NoMemory> {
-    if !variables {
-        let mut alternatives = Items::new(state.alloc);
-        alternatives.push(PlainAlt {
-            binders: bound,
-            rhs: PlainRhs::Body(Boxed::new(state.alloc, body)?),
-            span,
-        })?;
-        let scrutinees = made_all(state, numbers, span)?;
-        let whole = PlainExpr::Case {
-            scrutinees,
-            alternatives,
-            span,
-        };
-        return made_lambdas(state, numbers, whole, span);
+    match state.made(number) {
+        Ok(name) => lambda(state.alloc, name, at, body, span),
+        Err(error) => Err(error),
     }
-    let mut bound = bound;
-    let mut whole = body;
-    for _ in 0..bound.len() {
-        if let Some(PlainBinder::Variable { name, span: at }) = bound.pop() {
-            whole = lambda(state.alloc, name, at, whole, span)?;
-        }
-    }
-    Ok(whole)
 }
 
-/// `apply (.. (map f e1) ..) en`, from the calls of `map` and `apply` with one argument.
-fn ado_calls(
-    alloc: Global,
-    calls: Vec<PlainExpr>,
-    function: PlainExpr,
+fn case_of_made(
+    state: &Desugar,
+    number: u32,
+    alt: PlainAlt,
+    at: Span,
     span: Span,
 ) -> Result<PlainExpr, NoMemory> {
-    let mut whole = function;
-    for call in calls {
-        whole = ado_call(alloc, call, whole, span)?;
-    }
-    Ok(whole)
-}
-
-/// Puts what stands before a step between the step's function and its value.
-fn ado_call(
-    alloc: Global,
-    call: PlainExpr,
-    before: PlainExpr,
-    span: Span,
-) -> Result<PlainExpr, NoMemory> {
-    match call {
-        PlainExpr::Application {
-            function,
-            argument,
-            span: at,
-        } => {
-            let one = application(alloc, function.into_inner(), before, at)?;
-            application(alloc, one, argument.into_inner(), span)
-        }
-        other => application(alloc, other, before, span),
+    match made(state, number, at) {
+        Ok(variable) => case_of_one(state.alloc, variable, alt, span),
+        Err(error) => Err(error),
     }
 }

@@ -29,17 +29,6 @@ pub(crate) fn binder(alloc: Global, out: &mut Printer, tree: &PlainBinder) -> Re
         PlainBinder::Boolean { value, span } => {
             out.named(if *value { "true" } else { "false" }, *span)
         }
-        PlainBinder::Constructor {
-            name,
-            name_span,
-            arguments,
-            span,
-        } => {
-            out.open("con", *span)?;
-            qualified(alloc, out, name, *name_span)?;
-            binders(alloc, out, arguments.as_slice())?;
-            out.close()
-        }
         PlainBinder::Array { items, span } => {
             out.open("array", *span)?;
             binders(alloc, out, items.as_slice())?;
@@ -52,6 +41,25 @@ pub(crate) fn binder(alloc: Global, out: &mut Printer, tree: &PlainBinder) -> Re
             }
             out.close()
         }
+        PlainBinder::Constructor { .. } | PlainBinder::Typed { .. } => applied(alloc, out, tree),
+    }
+}
+
+/// A constructor with its arguments, or a binder with its type.
+#[cycle(binders)]
+fn applied(alloc: Global, out: &mut Printer, tree: &PlainBinder) -> Result<(), NoMemory> {
+    match tree {
+        PlainBinder::Constructor {
+            name,
+            name_span,
+            arguments,
+            span,
+        } => {
+            out.open("con", *span)?;
+            qualified(alloc, out, name, *name_span)?;
+            binders(alloc, out, arguments.as_slice())?;
+            out.close()
+        }
         PlainBinder::Typed {
             inner,
             x_type,
@@ -62,6 +70,7 @@ pub(crate) fn binder(alloc: Global, out: &mut Printer, tree: &PlainBinder) -> Re
             typ(alloc, out, x_type.get())?;
             out.close()
         }
+        _ => out.word("?"),
     }
 }
 

@@ -62,6 +62,15 @@ fn form(alloc: Global, out: &mut Printer, tree: &PlainExpr) -> Result<(), NoMemo
             expr(alloc, out, argument.get())?;
             out.close()
         }
+        PlainExpr::Case { .. } | PlainExpr::Let { .. } => block(alloc, out, tree),
+        _ => behind(alloc, out, tree),
+    }
+}
+
+/// What has alternatives or bindings.
+#[cycle(exprs)]
+fn block(alloc: Global, out: &mut Printer, tree: &PlainExpr) -> Result<(), NoMemory> {
+    match tree {
         PlainExpr::Case {
             scrutinees,
             alternatives,
@@ -87,7 +96,7 @@ fn form(alloc: Global, out: &mut Printer, tree: &PlainExpr) -> Result<(), NoMemo
             expr(alloc, out, body.get())?;
             out.close()
         }
-        _ => behind(alloc, out, tree),
+        _ => out.word("?"),
     }
 }
 

@@ -43,6 +43,14 @@ pub(crate) fn typ(alloc: Global, out: &mut Printer, tree: &PlainType) -> Result<
             typ(alloc, out, body.get())?;
             out.close()
         }
+        PlainType::Row { .. } => row(alloc, out, tree),
+        PlainType::Symbol { value, .. } => out.quoted(value.as_str()),
+    }
+}
+
+#[cycle(types)]
+fn row(alloc: Global, out: &mut Printer, tree: &PlainType) -> Result<(), NoMemory> {
+    match tree {
         PlainType::Row { fields, tail, span } => {
             out.open("row", *span)?;
             for one in fields.as_slice() {
@@ -55,7 +63,7 @@ pub(crate) fn typ(alloc: Global, out: &mut Printer, tree: &PlainType) -> Result<
             }
             out.close()
         }
-        PlainType::Symbol { value, .. } => out.quoted(value.as_str()),
+        _ => out.word("?"),
     }
 }
 

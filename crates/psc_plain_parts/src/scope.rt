@@ -23,7 +23,7 @@ struct Frame {
 
 /// The local names.
 #[derive(Debug, Drop)]
-pub(crate) struct Scope {
+pub struct Scope {
     alloc: Global,
     /// What each name stands for, the innermost last.
     bound: BTreeMap<Text, Vec<Bound>>,
@@ -33,7 +33,8 @@ pub(crate) struct Scope {
 }
 
 impl Scope {
-    pub(crate) fn new(alloc: Global) -> Scope {
+    /// No name is bound.
+    pub fn new(alloc: Global) -> Scope {
         Scope {
             alloc,
             bound: BTreeMap::new(alloc),
@@ -43,45 +44,44 @@ impl Scope {
     }
 
     /// How many names are bound, which tells later how far to leave.
-    pub(crate) fn mark(&self) -> usize {
+    pub fn mark(&self) -> usize {
         self.names.len()
     }
 
     fn bind(&mut self, name: &Text, bound: Bound) -> Result<(), NoMemory> {
-        self.names.push(name.clone()?)?;
+        if self.bound.get(name).is_none() {
+            let _before = self.bound.insert(name.clone()?, Vec::new(self.alloc))?;
+        }
         if let Some(list) = self.bound.get_mut(name) {
             list.push(bound)?;
-            return Ok(());
         }
-        let mut list = Vec::new(self.alloc);
-        list.push(bound)?;
-        let _before = self.bound.insert(name.clone()?, list)?;
+        self.names.push(name.clone()?)?;
         Ok(())
     }
 
     /// Binds a name by a binder.
-    pub(crate) fn enter(&mut self, name: &Text) -> Result<(), NoMemory> {
+    pub fn enter(&mut self, name: &Text) -> Result<(), NoMemory> {
         self.bind(name, Bound::ByBinder)
     }
 
-    pub(crate) fn enter_all(&mut self, names: &[Text]) -> Result<(), NoMemory> {
+    /// Binds names by binders.
+    pub fn enter_all(&mut self, names: &[Text]) -> Result<(), NoMemory> {
         for name in names {
             self.enter(name)?;
         }
         Ok(())
     }
 
-    /// The names that were bound since the mark.
-    pub(crate) fn since(&self, mark: usize) -> Result<Vec<Text>, NoMemory> {
-        let mut names = Vec::new(self.alloc);
+    /// The names that were bound since the mark, behind those of a list.
+    pub fn add_since(&self, mark: usize, list: &mut Vec<Text>) -> Result<(), NoMemory> {
         for name in self.names.iter().skip(mark) {
-            names.push(name.clone()?)?;
+            list.push(name.clone()?)?;
         }
-        Ok(names)
+        Ok(())
     }
 
     /// Leaves all names that were bound since the mark.
-    pub(crate) fn leave(&mut self, mark: usize) {
+    pub fn leave(&mut self, mark: usize) {
         for _ in mark..self.names.len() {
             if let Some(name) = self.names.pop() {
                 if let Some(list) = self.bound.get_mut(&name) {
@@ -92,7 +92,7 @@ impl Scope {
     }
 
     /// Begins the bindings of a `let` that see one another, and tells their frame.
-    pub(crate) fn open(&mut self) -> Result<usize, NoMemory> {
+    pub fn open(&mut self) -> Result<usize, NoMemory> {
         let frame = self.frames.len();
         self.frames.push(Frame {
             current: None,
@@ -102,28 +102,36 @@ impl Scope {
     }
 
     /// Binds the name of the next binding of a frame.
-    pub(crate) fn declare(&mut self, frame: usize, name: &Text) -> Result<(), NoMemory> {
+    pub fn declare(&mut self, frame: usize, name: &Text) -> Result<(), NoMemory> {
+        match self.add_binding(frame) {
+            Ok(Some(number)) => self.bind(name, Bound::ByLet { frame, number }),
+            Ok(None) => Ok(()),
+            Err(error) => Err(error),
+        }
+    }
+
+    /// One binding more of a frame, and its number.
+    fn add_binding(&mut self, frame: usize) -> Result<Option<u32>, NoMemory> {
         let alloc = self.alloc;
         let Some(open) = self.frames.get_mut(frame) else {
-            return Ok(());
+            return Ok(None);
         };
-        let number = match u32::try_from(open.mentions.len()) {
-            Ok(number) => number,
-            Err(_) => return Err(NoMemory),
+        let Ok(number) = u32::try_from(open.mentions.len()) else {
+            return Err(NoMemory);
         };
         open.mentions.push(Vec::new(alloc))?;
-        self.bind(name, Bound::ByLet { frame, number })
+        Ok(Some(number))
     }
 
     /// Tells in which binding of a frame the next mentions stand.
-    pub(crate) fn stand_in(&mut self, frame: usize, binding: Option<usize>) {
+    pub fn stand_in(&mut self, frame: usize, binding: usize) {
         if let Some(open) = self.frames.get_mut(frame) {
-            open.current = binding;
+            open.current = Some(binding);
         }
     }
 
     /// Notes a mention of a local name.
-    pub(crate) fn mention(&mut self, name: &Text) -> Result<(), NoMemory> {
+    pub fn mention(&mut self, name: &Text) -> Result<(), NoMemory> {
         let innermost = match self.bound.get(name) {
             Some(list) => list.last().copied(),
             None => None,
@@ -146,7 +154,7 @@ impl Scope {
     }
 
     /// Ends the bindings of a frame, and tells what each mentions. Their names stay bound.
-    pub(crate) fn close(&mut self, frame: usize) -> Vec<Vec<u32>> {
+    pub fn close(&mut self, frame: usize) -> Vec<Vec<u32>> {
         let alloc = self.alloc;
         match self.frames.get_mut(frame) {
             Some(open) => {
