@@ -1,0 +1,2 @@
+pub mod SizeRules
+pub mod WrittenRules

@@ -1,0 +1,4 @@
+pub mod Entities
+pub mod Names
+pub mod Sizes
+pub mod Written

@@ -1,0 +1,9 @@
+pub mod Appended
+pub mod Back
+pub mod ClassRules
+pub mod Cuts
+pub mod Made
+pub mod Pops
+pub mod Runs
+pub mod Steps
+pub mod WordRules
