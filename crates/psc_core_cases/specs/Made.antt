@@ -28,13 +28,20 @@ variable at x = core.Var (plain at) (local x)
 abbrev pub undefined : Span → CoreExpr
 undefined at = core.Var (plain at) (record { «module» = Some (codes "Prim"); name = codes "undefined" })
 
+-- a lambda of this name
+abbrev pub lambda : Span → List ℕ → CoreExpr → CoreExpr
+lambda at x e = core.Abs (plain at) (record { 0 = x }) e
+
 -- a value that is put off: a lambda over `$u`
 abbrev pub thunk : Span → CoreExpr → CoreExpr
-thunk at e = core.Abs (plain at) (record { 0 = codes "$u" }) e
+thunk at e = lambda at (codes "$u") e
+
+abbrev pub applied : Span → CoreExpr → CoreExpr → CoreExpr
+applied at f a = core.App (plain at) f a
 
 -- a value that was put off, where it is wanted
 abbrev pub forced : Span → CoreExpr → CoreExpr
-forced at e = core.App (plain at) e (undefined at)
+forced at e = applied at e (undefined at)
 
 abbrev pub truth : Span → Bool → CoreExpr
 truth at b = core.Literal (plain at) (literal.Bool b)

@@ -29,12 +29,22 @@ failed at (GoOn f) = going_on at f
 abbrev pub alternative : List CoreBinder → CoreExpr → CoreAlternative
 alternative ps e = record { binders = ps; outcome = outcome_of.Always e }
 
+-- what comes where no other alternative does
+abbrev pub any_alternative : Span → CoreExpr → CoreAlternative
+any_alternative at e = alternative (any_binder at ∷ []) e
+
+abbrev pub case_at : Span → List CoreExpr → List CoreAlternative → CoreExpr
+case_at at es alternatives = core.Case (plain at) es alternatives
+
+abbrev pub let_at : Span → List CoreBind → CoreExpr → CoreExpr
+let_at at binds body = core.Let (plain at) binds body
+
 abbrev pub test_alternatives : Span → CoreBinder → CoreExpr → CoreExpr → List CoreAlternative
-test_alternatives at p e otherwise = alternative (p ∷ []) e ∷ alternative (any_binder at ∷ []) otherwise ∷ []
+test_alternatives at p e otherwise = alternative (p ∷ []) e ∷ any_alternative at otherwise ∷ []
 
 -- the case of a test, with what stands behind it
 abbrev pub tested : Span → Test → CoreExpr → Failure → CoreExpr
-tested at t e fail = core.Case (plain at) (t.value ∷ []) (test_alternatives at t.binder e (failed at fail))
+tested at t e fail = case_at at (t.value ∷ []) (test_alternatives at t.binder e (failed at fail))
 
 -- the nested cases of tests, with what stands behind the last one
 unfoldable pub nested : Span → Failure → List Test → CoreExpr → CoreExpr
@@ -58,9 +68,13 @@ abbrev pub row_of : Span → Bool → List CoreBinder → List Branch → Row
 row_of at true ps bs = Attempt ps bs
 row_of at false ps bs = Plain (record { binders = ps; outcome = outcome_of.Guarded (map (guarded at) bs) })
 
+-- a place of this number, where it is gone on
+abbrev pub place : Span → ℕ → CoreExpr → CoreBind
+place at f e = bound at (place_name f) (thunk at e)
+
 -- names a place where the body goes on
 abbrev pub placed : Span → ℕ → CoreExpr → CoreExpr → CoreExpr
-placed at f e body = core.Let (plain at) (bound at (place_name f) (thunk at e) ∷ []) body
+placed at f e body = let_at at (place at f e ∷ []) body
 
 -- a branch that goes on at the place of this number
 abbrev pub attempt : Span → ℕ → Branch → CoreExpr
@@ -96,12 +110,16 @@ unfoldable pub any_binders : Span → List CoreExpr → List CoreBinder
 any_binders at [] = []
 any_binders at (e ∷ es) = any_binder at ∷ any_binders at es
 
+-- a subject with its name
+abbrev pub subject_bind : Span → ℕ → CoreExpr → CoreBind
+subject_bind at s e = bound at (subject_name s) e
+
 unfoldable pub subject_binds : Span → ℕ → List CoreExpr → List CoreBind
 subject_binds at s [] = []
-subject_binds at s (e ∷ es) = bound at (subject_name s) e ∷ subject_binds at (suc s) es
+subject_binds at s (e ∷ es) = subject_bind at s e ∷ subject_binds at (suc s) es
 
 abbrev pub with_subjects : Span → ℕ → List CoreExpr → CoreExpr → CoreExpr
-with_subjects at s es body = core.Let (plain at) (subject_binds at s es) body
+with_subjects at s es body = let_at at (subject_binds at s es) body
 
 -- the alternatives of a case whose last one that is given has branches to try, and the one that goes on
 abbrev pub tried : Span → List CoreAlternative → List CoreBinder → List CoreBinder → ℕ → ℕ → List Branch → List CoreAlternative

@@ -69,28 +69,73 @@ fn undefined(alloc: Global, at: Span) -> Result<CoreExpr, NoMemory>
     })
 }
 
+/// An expression on the heap.
+pub(crate) fn boxed(alloc: Global, core: CoreExpr) -> Result<Boxed<CoreExpr>, NoMemory>
+    ensures { IfOk result (λ made. made ≡ core) }
+{
+    match Boxed::new(alloc, core) {
+        Ok(made) => Ok(made),
+        Err(_) => Err(NoMemory),
+    }
+}
+
+/// A lambda of this name.
+fn lambda(alloc: Global, at: Span, argument: Text, body: CoreExpr) -> Result<CoreExpr, NoMemory>
+    ensures { IfOk result (λ core. core ≡ spec.lambda at argument body) }
+{
+    match boxed(alloc, body) {
+        Ok(body) => Ok(CoreExpr::Abs {
+            ann: Ann::plain(at),
+            argument: Ident(argument),
+            body,
+        }),
+        Err(error) => Err(error),
+    }
+}
+
 /// A value that is put off.
 pub fn thunk(alloc: Global, at: Span, value: CoreExpr) -> Result<CoreExpr, NoMemory>
     ensures { IfOk result (λ core. core ≡ spec.thunk at value) }
 {
-    let argument = Ident(Text::new(alloc, "$u")?);
-    Ok(CoreExpr::Abs {
-        ann: Ann::plain(at),
-        argument,
-        body: Boxed::new(alloc, value)?,
-    })
+    match Text::new(alloc, "$u") {
+        Ok(argument) => lambda(alloc, at, argument, value),
+        Err(error) => Err(error),
+    }
+}
+
+fn boxed_undefined(alloc: Global, at: Span) -> Result<Boxed<CoreExpr>, NoMemory>
+    ensures { IfOk result (λ made. made ≡ spec.undefined at) }
+{
+    let core = undefined(alloc, at)?;
+    boxed(alloc, core)
+}
+
+fn applied(
+    alloc: Global,
+    at: Span,
+    function: CoreExpr,
+    argument: Boxed<CoreExpr>,
+) -> Result<CoreExpr, NoMemory>
+    ensures { IfOk result (λ core. core ≡ spec.applied at function argument) }
+{
+    match boxed(alloc, function) {
+        Ok(function) => Ok(CoreExpr::App {
+            ann: Ann::plain(at),
+            function,
+            argument,
+        }),
+        Err(error) => Err(error),
+    }
 }
 
 /// A value that was put off, where it is wanted.
 pub fn forced(alloc: Global, at: Span, value: CoreExpr) -> Result<CoreExpr, NoMemory>
     ensures { IfOk result (λ core. core ≡ spec.forced at value) }
 {
-    let argument = Boxed::new(alloc, undefined(alloc, at)?)?;
-    Ok(CoreExpr::App {
-        ann: Ann::plain(at),
-        function: Boxed::new(alloc, value)?,
-        argument,
-    })
+    match boxed_undefined(alloc, at) {
+        Ok(argument) => applied(alloc, at, value, argument),
+        Err(error) => Err(error),
+    }
 }
 
 pub(crate) fn truth(at: Span, truth: bool) -> CoreExpr

@@ -1,178 +1,164 @@
 //! What is asked of types, on small ones.
 
-use psc_items::{Shared, SharedItems};
-use psc_text::{Ident, Label, NoMemory, Qualified, Text};
-use psc_type::{
-    Constraint, Kind, Replaced, Ty, canonical, has_more_nodes, is_free, row_equal, substitute,
-};
-use std::alloc::Global;
+use crate::ask::{Question, ask};
+use crate::words::Make;
+use psc_items::Shared;
+use psc_text::NoMemory;
+use psc_type::{Replaced, Ty, canonical, has_more_nodes, is_free, row_equal, substitute};
 use std::test::Fail;
 
-/// Makes types from what they consist of.
-#[derive(Clone, Copy)]
-struct Make {
-    alloc: Global,
+fn ordered(make: Make, words: &str) -> Result<Shared<Ty>, NoMemory> {
+    let ty = make.ty(words)?;
+    make.shared(canonical(make.alloc, ty.get()))
 }
 
-impl Make {
-    fn ident(self, name: &str) -> Result<Ident, NoMemory> {
-        Ok(Ident(Text::new(self.alloc, name)?))
-    }
-
-    fn var(self, name: &str) -> Result<Ty, NoMemory> {
-        Ok(Ty::Var(self.ident(name)?))
-    }
-
-    fn app(self, function: Ty, argument: Ty) -> Result<Ty, NoMemory> {
-        let function = Shared::new(self.alloc, function)?;
-        Ok(Ty::App(function, Shared::new(self.alloc, argument)?))
-    }
-
-    fn forall(self, name: &str, body: Ty) -> Result<Ty, NoMemory> {
-        Ok(Ty::Forall(
-            self.ident(name)?,
-            Kind::Star,
-            Shared::new(self.alloc, body)?,
-        ))
-    }
-
-    fn cons(self, label: &str, ty: Ty, rest: Ty) -> Result<Ty, NoMemory> {
-        let label = Label(Text::new(self.alloc, label)?);
-        let ty = Shared::new(self.alloc, ty)?;
-        Ok(Ty::RowCons(label, ty, Shared::new(self.alloc, rest)?))
-    }
-
-    fn given(self, arg: Ty, body: Ty) -> Result<Ty, NoMemory> {
-        let mut args = Vec::new(self.alloc);
-        args.push(arg)?;
-        let class = Qualified {
-            module: None,
-            name: Text::new(self.alloc, "C")?,
-        };
-        let args = SharedItems::from_vec(self.alloc, args)?;
-        Ok(Ty::Given(Constraint { class, args }, Shared::new(self.alloc, body)?))
-    }
-
-    fn put(self, name: &str, by: Ty, ty: &Ty) -> Result<Ty, NoMemory> {
-        let mut replaced = Vec::new(self.alloc);
-        replaced.push(Replaced {
-            name: self.ident(name)?,
-            by,
-        })?;
-        substitute(self.alloc, replaced.as_slice(), ty)
-    }
+/// Whether the first type with its labels in order is the second.
+pub fn is_ordered(make: Make, words: &str, want: &str) -> Result<bool, NoMemory> {
+    let ty = ordered(make, words)?;
+    make.is(ty.get(), want)
 }
+
+pub fn are_equal(make: Make, one: &str, other: &str) -> Result<bool, NoMemory> {
+    let one = make.ty(one)?;
+    let other = make.ty(other)?;
+    row_equal(make.alloc, one.get(), other.get())
+}
+
+fn replacement(make: Make, name: &str, by: &str) -> Result<Replaced, NoMemory> {
+    let name = make.ident(name)?;
+    let by = make.owned(by)?;
+    Ok(Replaced { name, by })
+}
+
+fn replacements(make: Make, name: &str, by: &str) -> Result<Vec<Replaced>, NoMemory> {
+    let mut replaced = Vec::new(make.alloc);
+    replaced.push(replacement(make, name, by)?)?;
+    Ok(replaced)
+}
+
+fn replaced(make: Make, name: &str, by: &str, words: &str) -> Result<Shared<Ty>, NoMemory> {
+    let replaced = replacements(make, name, by)?;
+    let ty = make.ty(words)?;
+    make.shared(substitute(make.alloc, replaced.as_slice(), ty.get()))
+}
+
+/// Whether `ty` with `by` in the place of the variable is `want`.
+pub fn becomes(make: Make, name: &str, by: &str, ty: &str, want: &str) -> Result<bool, NoMemory> {
+    let ty = replaced(make, name, by, ty)?;
+    make.is(ty.get(), want)
+}
+
+pub fn mentions(make: Make, name: &str, words: &str) -> Result<bool, NoMemory> {
+    let name = make.ident(name)?;
+    let ty = make.ty(words)?;
+    Ok(is_free(&name, ty.get()))
+}
+
+pub fn has_six_nodes(make: Make, words: &str) -> Result<bool, NoMemory> {
+    let ty = make.ty(words)?;
+    Ok(has_more_nodes(ty.get(), 5) && !has_more_nodes(ty.get(), 6))
+}
+
+const ORDERED: &[&[&str]] = &[
+    &[
+        "row y;var a;row x;var b;row y;var c;var r",
+        "row x;var b;row y;var a;row y;var c;var r",
+    ],
+    &[
+        "class C;row y;var a;row x;var b;row y;var c;var r;nil",
+        "class C;row x;var b;row y;var a;row y;var c;var r;nil",
+    ],
+    &[
+        "app;row y;var a;row x;var b;nil;nil",
+        "app;row x;var b;row y;var a;nil;nil",
+    ],
+];
 
 #[test]
 fn labels_are_put_in_order(rt: HostRuntime) -> Result<(), Fail> {
-    let make = Make { alloc: rt.alloc() };
-    let (a, b, c) = (make.var("a")?, make.var("b")?, make.var("c")?);
-    let end = make.cons("y", c.clone()?, make.var("r")?)?;
-    let row = make.cons("y", a.clone()?, make.cons("x", b.clone()?, end)?)?;
-    let last = make.cons("y", c, make.var("r")?)?;
-    let want = make.cons("x", b, make.cons("y", a, last)?)?;
-    assert!(rt; canonical(make.alloc, &row)?.same(&want));
-    assert!(rt;
-        canonical(make.alloc, &make.given(row, Ty::RowNil)?)?.same(&make.given(want, Ty::RowNil)?)
-    );
-    Ok(())
+    ask(&rt, rt.alloc(), Question::Ordered, ORDERED)
 }
 
-#[test]
-fn types_are_equal_up_to_the_order_of_labels(rt: HostRuntime) -> Result<(), Fail> {
-    let make = Make { alloc: rt.alloc() };
-    let (a, b) = (make.var("a")?, make.var("b")?);
-    let one = make.cons("x", a.clone()?, make.cons("y", b.clone()?, Ty::RowNil)?)?;
-    let other = make.cons("y", b.clone()?, make.cons("x", a.clone()?, Ty::RowNil)?)?;
-    assert!(rt; row_equal(make.alloc, &one, &other)?);
-    let twice = make.cons("x", a.clone()?, make.cons("x", b.clone()?, Ty::RowNil)?)?;
-    let turned = make.cons("x", b, make.cons("x", a, Ty::RowNil)?)?;
-    assert!(rt; !row_equal(make.alloc, &twice, &turned)?);
-    assert!(rt; !row_equal(make.alloc, &one, &twice)?);
-    Ok(())
-}
+const EQUAL: &[&[&str]] = &[
+    &["row x;var a;row y;var b;nil", "row y;var b;row x;var a;nil"],
+    &["forall a;app;var a;var c", "forall b;app;var b;var c"],
+    &["forall a;forall a;var a", "forall a;forall b;var b"],
+];
 
 #[test]
-fn types_are_equal_up_to_bound_names(rt: HostRuntime) -> Result<(), Fail> {
-    let make = Make { alloc: rt.alloc() };
-    let one = make.forall("a", make.app(make.var("a")?, make.var("c")?)?)?;
-    let other = make.forall("b", make.app(make.var("b")?, make.var("c")?)?)?;
-    assert!(rt; row_equal(make.alloc, &one, &other)?);
-    let captured = make.forall("c", make.app(make.var("c")?, make.var("c")?)?)?;
-    assert!(rt; !row_equal(make.alloc, &one, &captured)?);
-    assert!(rt; !row_equal(make.alloc, &make.var("a")?, &make.var("b")?)?);
-    let inner = make.forall(
+fn types_are_equal_up_to_the_order_of_labels_and_bound_names(rt: HostRuntime) -> Result<(), Fail> {
+    ask(&rt, rt.alloc(), Question::Equal, EQUAL)
+}
+
+const UNEQUAL: &[&[&str]] = &[
+    &["row x;var a;row x;var b;nil", "row x;var b;row x;var a;nil"],
+    &["row x;var a;row y;var b;nil", "row x;var a;row x;var b;nil"],
+    &["forall a;app;var a;var c", "forall c;app;var c;var c"],
+    &["var a", "var b"],
+    &[
+        "forall a;forall b;app;var a;var b",
+        "forall a;forall b;app;var b;var a",
+    ],
+    &["var b0", "forall a;var a"],
+];
+
+#[test]
+fn types_differ_by_the_order_of_equal_labels_and_by_what_is_captured(
+    rt: HostRuntime,
+) -> Result<(), Fail> {
+    ask(&rt, rt.alloc(), Question::Unequal, UNEQUAL)
+}
+
+/// A variable, what is put in its place, a type, and what that becomes.
+const REPLACED: &[&[&str]] = &[
+    &[
         "a",
-        make.forall("b", make.app(make.var("a")?, make.var("b")?)?)?,
-    )?;
-    let swapped = make.forall(
-        "a",
-        make.forall("b", make.app(make.var("b")?, make.var("a")?)?)?,
-    )?;
-    assert!(rt; !row_equal(make.alloc, &inner, &swapped)?);
-    let hidden = make.forall("a", make.forall("a", make.var("a")?)?)?;
-    let second = make.forall("a", make.forall("b", make.var("b")?)?)?;
-    assert!(rt; row_equal(make.alloc, &hidden, &second)?);
-    assert!(rt;
-        !row_equal(
-            make.alloc,
-            &make.var("b0")?,
-            &make.forall("a", make.var("a")?)?
-        )?
-    );
-    Ok(())
-}
-
-#[test]
-fn free_variables_are_replaced(rt: HostRuntime) -> Result<(), Fail> {
-    let make = Make { alloc: rt.alloc() };
-    let ty = make.app(make.var("a")?, make.forall("a", make.var("a")?)?)?;
-    let want = make.app(Ty::RowNil, make.forall("a", make.var("a")?)?)?;
-    assert!(rt; make.put("a", Ty::RowNil, &ty)?.same(&want));
-    assert!(rt; make.put("b", Ty::RowNil, &ty)?.same(&ty));
-    let given = make.given(make.var("a")?, make.var("a")?)?;
-    assert!(rt;
-        make.put("a", Ty::RowNil, &given)?
-            .same(&make.given(Ty::RowNil, Ty::RowNil)?)
-    );
-    Ok(())
-}
-
-#[test]
-fn no_variable_is_captured(rt: HostRuntime) -> Result<(), Fail> {
-    let make = Make { alloc: rt.alloc() };
-    let ty = make.forall("b", make.app(make.var("a")?, make.var("b")?)?)?;
-    let want = make.forall("b'", make.app(make.var("b")?, make.var("b'")?)?)?;
-    assert!(rt; make.put("a", make.var("b")?, &ty)?.same(&want));
-    let taken = make.forall(
+        "nil",
+        "app;var a;forall a;var a",
+        "app;nil;forall a;var a",
+    ],
+    &[
         "b",
-        make.app(make.var("a")?, make.app(make.var("b")?, make.var("b'")?)?)?,
-    )?;
-    let inner = make.app(make.var("b''")?, make.var("b'")?)?;
-    let want = make.forall("b''", make.app(make.var("b")?, inner)?)?;
-    assert!(rt; make.put("a", make.var("b")?, &taken)?.same(&want));
-    Ok(())
+        "nil",
+        "app;var a;forall a;var a",
+        "app;var a;forall a;var a",
+    ],
+    &["a", "nil", "class C;var a;var a", "class C;nil;nil"],
+    &[
+        "a",
+        "var b",
+        "forall b;app;var a;var b",
+        "forall b';app;var b;var b'",
+    ],
+    &[
+        "a",
+        "var b",
+        "forall b;app;var a;app;var b;var b'",
+        "forall b'';app;var b;app;var b'';var b'",
+    ],
+];
+
+#[test]
+fn free_variables_are_replaced_and_none_is_captured(rt: HostRuntime) -> Result<(), Fail> {
+    ask(&rt, rt.alloc(), Question::Becomes, REPLACED)
 }
+
+/// Types, and whether `a` is free in them.
+const FREE: &[&[&str]] = &[
+    &["forall a;var a", "no"],
+    &["app;forall a;var a;var a", "yes"],
+    &["class C;var a;nil", "yes"],
+    &["class C;var b;nil", "no"],
+];
 
 #[test]
 fn a_bound_variable_is_not_free(rt: HostRuntime) -> Result<(), Fail> {
-    let make = Make { alloc: rt.alloc() };
-    let name = make.ident("a")?;
-    let bound = make.forall("a", make.var("a")?)?;
-    assert!(rt; !is_free(&name, &bound));
-    assert!(rt; is_free(&name, &make.app(bound, make.var("a")?)?));
-    assert!(rt; is_free(&name, &make.given(make.var("a")?, Ty::RowNil)?));
-    Ok(())
+    ask(&rt, rt.alloc(), Question::Free, FREE)
 }
+
+const NODES: &[&[&str]] = &[&["class C;var a;forall a;app;nil;nil"]];
 
 #[test]
 fn nodes_are_counted(rt: HostRuntime) -> Result<(), Fail> {
-    let make = Make { alloc: rt.alloc() };
-    let ty = make.given(
-        make.var("a")?,
-        make.forall("a", make.app(Ty::RowNil, Ty::RowNil)?)?,
-    )?;
-    assert!(rt; has_more_nodes(&ty, 5));
-    assert!(rt; !has_more_nodes(&ty, 6));
-    Ok(())
+    ask(&rt, rt.alloc(), Question::SixNodes, NODES)
 }

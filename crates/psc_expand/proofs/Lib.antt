@@ -1,0 +1,2 @@
+pub mod ExpandRules
+pub mod Mentioning

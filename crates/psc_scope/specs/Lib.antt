@@ -1,0 +1,4 @@
+pub mod Candidates
+pub mod Lookup
+pub mod Names
+pub mod Problems
