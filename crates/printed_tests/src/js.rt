@@ -1,5 +1,4 @@
 //! The JavaScript text of trees, whole, against texts that were written by hand.
 
 mod modules;
-mod notation;
 mod texts;

@@ -5,3 +5,7 @@
 mod corefn;
 #[cfg(test)]
 mod js;
+#[cfg(test)]
+mod notation;
+#[cfg(test)]
+mod rows;

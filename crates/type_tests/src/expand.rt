@@ -1,11 +1,11 @@
 //! Types with synonyms, and what they mean.
 
+use crate::ask::{Question, ask};
 use crate::words::Make;
 use psc_expand::expand;
-use psc_items::SharedItems;
-use psc_text::{Ident, NoMemory, Text};
+use psc_items::{Shared, SharedItems};
+use psc_text::{Ident, NoMemory, Qualified};
 use psc_type::{ExpandFault, Synonym, Synonyms, Ty};
-use std::alloc::Global;
 use std::test::Fail;
 
 /// Synonyms: their names, parameters and bodies. The second `Pair` counts for nothing.
@@ -19,21 +19,37 @@ const SYNONYMS: [(&str, &str, &str); 7] = [
     ("Pair", "", "con N"),
 ];
 
-fn params_of(alloc: Global, words: &str) -> Result<SharedItems<Ident>, NoMemory> {
-    let mut params = Vec::new(alloc);
-    for word in words.split_whitespace() {
-        let name = Text::new(alloc, word)?;
-        params.push(Ident(name))?;
-    }
-    Ok(SharedItems::from_vec(alloc, params)?)
+fn put_param(make: Make, params: &mut Vec<Ident>, name: &str) -> Result<(), NoMemory> {
+    let name = make.ident(name)?;
+    params.push(name)?;
+    Ok(())
 }
 
-fn synonym(make: Make, name: &str, params: &str, body: Ty) -> Result<Synonym, NoMemory> {
-    let name = make.name("Data.Sample", name)?;
-    match params_of(make.alloc, params) {
-        Ok(params) => Ok(Synonym { name, params, body }),
-        Err(error) => Err(error),
+fn params_of(make: Make, words: &str) -> Result<SharedItems<Ident>, NoMemory> {
+    let mut params = Vec::new(make.alloc);
+    for word in words.split_whitespace() {
+        put_param(make, &mut params, word)?;
     }
+    Ok(SharedItems::from_vec(make.alloc, params)?)
+}
+
+/// What a synonym has before its body.
+#[derive(Drop)]
+struct Head {
+    name: Qualified,
+    params: SharedItems<Ident>,
+}
+
+fn head_of(make: Make, name: &str, params: &str) -> Result<Head, NoMemory> {
+    let name = make.name("Data.Sample", name)?;
+    let params = params_of(make, params)?;
+    Ok(Head { name, params })
+}
+
+fn synonym(make: Make, name: &str, params: &str, words: &str) -> Result<Synonym, NoMemory> {
+    let Head { name, params } = head_of(make, name, params)?;
+    let body = make.owned(words)?;
+    Ok(Synonym { name, params, body })
 }
 
 fn add(
@@ -43,10 +59,8 @@ fn add(
     params: &str,
     words: &str,
 ) -> Result<(), NoMemory> {
-    if let Some(body) = make.ty(words)? {
-        let row = synonym(make, name, params, body)?;
-        rows.push(row)?;
-    }
+    let row = synonym(make, name, params, words)?;
+    rows.push(row)?;
     Ok(())
 }
 
@@ -60,94 +74,95 @@ fn synonyms(make: Make) -> Result<Synonyms, NoMemory> {
     })
 }
 
-fn meant(make: Make, ty: &Ty) -> Result<Result<Ty, ExpandFault>, NoMemory> {
+/// What the type means, or why it is refused.
+fn answer(make: Make, ty: &Ty) -> Result<Shared<Result<Ty, ExpandFault>>, NoMemory> {
     let synonyms = synonyms(make)?;
-    expand(make.alloc, ty, &synonyms)
-}
-
-/// Whether the type means the other one, and is not refused. None where words make no type.
-fn means(make: Make, words: &str, want: &str) -> Result<Option<bool>, NoMemory> {
-    match (make.ty(words)?, make.ty(want)?) {
-        (Some(ty), Some(want)) => match meant(make, &ty)? {
-            Ok(found) => Ok(Some(found.same(&want))),
-            Err(_) => Ok(Some(false)),
-        },
-        _ => Ok(None),
+    match expand(make.alloc, ty, &synonyms) {
+        Ok(answer) => Ok(Shared::new(make.alloc, answer)?),
+        Err(error) => Err(error),
     }
 }
 
-/// The synonym that lacks arguments.
-fn lacking(make: Make, words: &str) -> Result<Option<Text>, NoMemory> {
-    match make.ty(words)? {
-        Some(ty) => match meant(make, &ty)? {
-            Err(ExpandFault::Partial(name)) => Ok(Some(name.name)),
-            _ => Ok(None),
-        },
-        None => Ok(None),
+/// Whether the type means the other one, and is not refused.
+pub fn means(make: Make, words: &str, want: &str) -> Result<bool, NoMemory> {
+    let ty = make.ty(words)?;
+    let answer = answer(make, ty.get())?;
+    match answer.get() {
+        Ok(found) => make.is(found, want),
+        Err(_) => Ok(false),
     }
+}
+
+/// Whether the type is refused since this synonym lacks arguments.
+pub fn lacks(make: Make, words: &str, want: &str) -> Result<bool, NoMemory> {
+    let ty = make.ty(words)?;
+    let answer = answer(make, ty.get())?;
+    match answer.get() {
+        Err(ExpandFault::Partial(name)) => Ok(name.name.as_str() == want),
+        _ => Ok(false),
+    }
+}
+
+fn put_twice(make: Make, stack: &mut Vec<Shared<Ty>>) -> Result<(), NoMemory> {
+    make.con(stack, "Data.Sample", "Twice")?;
+    make.app(stack)
 }
 
 /// `Twice` so often round a name.
-fn twice(make: Make, times: u32) -> Result<Ty, NoMemory> {
-    let mut ty = Ty::Con(make.name("Data.Sample", "N")?);
+fn twice(make: Make, times: u32) -> Result<Shared<Ty>, NoMemory> {
+    let mut stack = Vec::new(make.alloc);
+    make.con(&mut stack, "Data.Sample", "N")?;
     for _ in 0..times {
-        let head = Ty::Con(make.name("Data.Sample", "Twice")?);
-        ty = make.app(head, ty)?;
+        put_twice(make, &mut stack)?;
     }
-    Ok(ty)
+    make.take(&mut stack)
 }
 
 fn is_too_large(make: Make, times: u32) -> Result<bool, NoMemory> {
     let ty = twice(make, times)?;
-    match meant(make, &ty)? {
+    let answer = answer(make, ty.get())?;
+    match answer.get() {
         Err(ExpandFault::TooLarge) => Ok(true),
         _ => Ok(false),
     }
 }
 
+const MEANT: &[&[&str]] = &[
+    &["app;app;con Pair;con N;con O", "app;app;con F;con N;con O"],
+    &[
+        "row l;app;app;con Pair;con N;con O;nil",
+        "row l;app;app;con F;con N;con O;nil",
+    ],
+    &["con N", "con N"],
+    &[
+        "app;con Twice;app;con Twice;con N",
+        "app;app;con F;app;app;con F;con N;con N;app;app;con F;con N;con N",
+    ],
+    &[
+        "app;app;con Twice;con N;con O",
+        "app;app;app;con F;con N;con N;con O",
+    ],
+    &["app;con Poly;var b", "forall b';app;app;con F;var b;var b'"],
+    &["con Self", "con Self"],
+    &["con Uses", "con Self"],
+];
+
 #[test]
 fn a_synonym_stands_for_its_body(rt: HostRuntime) -> Result<(), Fail> {
-    let make = Make { alloc: rt.alloc() };
-    let rows = [
-        ("app;app;con Pair;con N;con O", "app;app;con F;con N;con O"),
-        (
-            "row l;app;app;con Pair;con N;con O;nil",
-            "row l;app;app;con F;con N;con O;nil",
-        ),
-        ("con N", "con N"),
-        (
-            "app;con Twice;app;con Twice;con N",
-            "app;app;con F;app;app;con F;con N;con N;app;app;con F;con N;con N",
-        ),
-        (
-            "app;app;con Twice;con N;con O",
-            "app;app;app;con F;con N;con N;con O",
-        ),
-        ("app;con Poly;var b", "forall b';app;app;con F;var b;var b'"),
-        ("con Self", "con Self"),
-        ("con Uses", "con Self"),
-    ];
-    for (words, want) in rows {
-        assert_eq!(rt; means(make, words, want)?, Some(true));
-    }
-    Ok(())
+    ask(&rt, rt.alloc(), Question::Means, MEANT)
 }
+
+const LACKING: &[&[&str]] = &[
+    &["con Pair", "Pair"],
+    &["app;con Pair;con N", "Pair"],
+    &["con Half", "Pair"],
+    &["app;con F;con Twice", "Twice"],
+    &["app;con Pair;con Twice", "Twice"],
+];
 
 #[test]
 fn too_few_arguments_are_refused(rt: HostRuntime) -> Result<(), Fail> {
-    let make = Make { alloc: rt.alloc() };
-    let rows = [
-        ("con Pair", "Pair"),
-        ("app;con Pair;con N", "Pair"),
-        ("con Half", "Pair"),
-        ("app;con F;con Twice", "Twice"),
-        ("app;con Pair;con Twice", "Twice"),
-    ];
-    for (words, want) in rows {
-        let found = lacking(make, words)?.ok_or("not refused")?;
-        assert_eq!(rt; found.as_str(), want);
-    }
-    Ok(())
+    ask(&rt, rt.alloc(), Question::Lacks, LACKING)
 }
 
 #[test]

@@ -1,10 +1,11 @@
 //! The text of a module, whole, against texts that were written by hand.
 
-use crate::corefn::trees::{HERE, Lists, Trees};
-use psc_core_tree::{Ann, CoreBind, CoreBinding, CoreExpr, CoreModule, Literal, ReExport};
+use crate::rows::{HERE, Row, core_of, core_with, head_of, plain};
+use psc_core_tree::{Ann, CoreBind, CoreBinding, CoreExpr, CoreModule, Literal};
 use psc_corefn::corefn_text;
-use psc_items::SharedItems;
-use psc_text::{Ident, ModuleName, NoMemory, Span, Text};
+use psc_text::{Ident, NoMemory, Span, Text};
+use sqlite_items::Items;
+use std::alloc::Global;
 use std::test::Fail;
 
 fn span(line: u32, column: u32, end_line: u32, end_column: u32) -> Span {
@@ -16,38 +17,45 @@ fn span(line: u32, column: u32, end_line: u32, end_column: u32) -> Span {
     }
 }
 
-fn one_binding(t: Trees) -> Result<CoreBind, NoMemory> {
+fn one_binding(alloc: Global) -> Result<CoreBind, NoMemory> {
+    let name = Ident(Text::new(alloc, "x")?);
     let body = CoreExpr::Literal {
         ann: Ann::plain(span(2, 5, 2, 6)),
         value: Literal::Int(1),
     };
     Ok(CoreBind::NonRec(CoreBinding {
         ann: Ann::plain(span(2, 1, 2, 6)),
-        name: t.ident("x")?,
+        name,
         body,
     }))
 }
 
-fn one_export(t: Trees) -> Result<Lists, NoMemory> {
-    Ok(Lists {
-        imports: t.shared([])?,
-        exports: t.shared([t.text("x")?])?,
-        re_exports: t.shared([])?,
-        foreign: t.shared([])?,
-    })
+fn one_decl(alloc: Global) -> Result<Items<CoreBind>, NoMemory> {
+    let mut decls = Items::new(alloc);
+    decls.push(one_binding(alloc)?)?;
+    Ok(decls)
 }
 
-fn one_module(t: Trees) -> Result<CoreModule, NoMemory> {
-    let decls = t.items([one_binding(t)?])?;
-    let lists = one_export(t)?;
-    t.module_with("M", span(1, 1, 2, 6), lists, decls)
+fn one_module(alloc: Global) -> Result<CoreModule, NoMemory> {
+    let head = head_of(alloc, &plain("M", "x", ""))?;
+    let decls = one_decl(alloc)?;
+    Ok(core_with(span(1, 1, 2, 6), head, decls))
+}
+
+fn text_of_one(alloc: Global) -> Result<Text, NoMemory> {
+    let core = one_module(alloc)?;
+    corefn_text(alloc, &core)
+}
+
+fn text_of(alloc: Global, row: &Row) -> Result<Text, NoMemory> {
+    let core = core_of(alloc, HERE, row)?;
+    corefn_text(alloc, &core)
 }
 
 /// `module M where` and `x = 1`.
 #[test]
 fn the_text_of_a_module_of_one_line(rt: HostRuntime) -> Result<(), Fail> {
-    let t = Trees { alloc: rt.alloc() };
-    let text = corefn_text(t.alloc, &one_module(t)?)?;
+    let text = text_of_one(rt.alloc())?;
     assert_eq!(rt;
         text.as_str(),
         r#"{"builtWith":"0.15","decls":[{"annotation":{"meta":null,"sourceSpan":{"end":[2,6],"start":[2,1]}},"bindType":"NonRec","expression":{"annotation":{"meta":null,"sourceSpan":{"end":[2,6],"start":[2,5]}},"type":"Literal","value":{"literalType":"IntLiteral","value":1}},"identifier":"x"}],"exports":["x"],"foreign":[],"imports":[],"moduleName":["M"],"reExports":{},"sourceSpan":{"end":[2,6],"start":[1,1]}}"#
@@ -55,15 +63,9 @@ fn the_text_of_a_module_of_one_line(rt: HostRuntime) -> Result<(), Fail> {
     Ok(())
 }
 
-fn empty_module(t: Trees) -> Result<CoreModule, NoMemory> {
-    let lists = t.no_lists()?;
-    t.module_with("Data.List.Ä", HERE, lists, t.items([])?)
-}
-
 #[test]
 fn a_module_without_bindings_has_empty_lists_and_its_parts(rt: HostRuntime) -> Result<(), Fail> {
-    let t = Trees { alloc: rt.alloc() };
-    let text = corefn_text(t.alloc, &empty_module(t)?)?;
+    let text = text_of(rt.alloc(), &plain("Data.List.Ä", "", ""))?;
     assert_eq!(rt;
         text.as_str(),
         r#"{"builtWith":"0.15","decls":[],"exports":[],"foreign":[],"imports":[],"moduleName":["Data","List","Ä"],"reExports":{},"sourceSpan":{"end":[3,4],"start":[1,2]}}"#
@@ -71,54 +73,17 @@ fn a_module_without_bindings_has_empty_lists_and_its_parts(rt: HostRuntime) -> R
     Ok(())
 }
 
-fn imports(t: Trees) -> Result<SharedItems<ModuleName>, NoMemory> {
-    t.shared([t.module("A")?, t.module("Data.Maybe")?])
-}
-
-fn exports(t: Trees) -> Result<SharedItems<Text>, NoMemory> {
-    t.shared([t.text("$$new")?, t.text("a$27$")?, t.text("b")?])
-}
-
-fn re_exports(t: Trees) -> Result<SharedItems<ReExport>, NoMemory> {
-    let first = ReExport {
-        module: t.module("A")?,
-        names: t.shared([t.text("x")?])?,
-    };
-    let second = ReExport {
-        module: t.module("Data.Maybe")?,
-        names: t.shared([t.text("Just")?, t.text("Nothing")?])?,
-    };
-    t.shared([first, second])
-}
-
-fn foreign(t: Trees) -> Result<SharedItems<Ident>, NoMemory> {
-    t.shared([t.ident("f'")?, t.ident("größe")?])
-}
-
-fn whole_lists(t: Trees) -> Result<Lists, NoMemory> {
-    Ok(Lists {
-        imports: imports(t)?,
-        exports: exports(t)?,
-        re_exports: re_exports(t)?,
-        foreign: foreign(t)?,
-    })
-}
-
-fn pair(t: Trees) -> Result<CoreBind, NoMemory> {
-    let bindings = t.items([t.binding("a'", t.int(1))?, t.binding("new", t.int(2))?])?;
-    Ok(CoreBind::Rec(bindings))
-}
-
-fn whole_module(t: Trees) -> Result<CoreModule, NoMemory> {
-    let decls = t.items([t.bind("b", t.int(0))?, pair(t)?])?;
-    let lists = whole_lists(t)?;
-    t.module_with("M", HERE, lists, decls)
-}
-
 #[test]
 fn lists_of_a_module_stand_in_their_order(rt: HostRuntime) -> Result<(), Fail> {
-    let t = Trees { alloc: rt.alloc() };
-    let text = corefn_text(t.alloc, &whole_module(t)?)?;
+    let row = Row {
+        name: "M",
+        imports: "A Data.Maybe",
+        foreign: "f' größe",
+        exports: "$$new a$27$ b",
+        re_exports: &["A x", "Data.Maybe Just Nothing"],
+        binds: ".bind b .int 0 .rec 2 .binding a' .int 1 .binding new .int 2",
+    };
+    let text = text_of(rt.alloc(), &row)?;
     assert_eq!(rt;
         text.as_str(),
         r#"{"builtWith":"0.15","decls":[{"annotation":{"meta":null,"sourceSpan":{"end":[3,4],"start":[1,2]}},"bindType":"NonRec","expression":{"annotation":{"meta":null,"sourceSpan":{"end":[3,4],"start":[1,2]}},"type":"Literal","value":{"literalType":"IntLiteral","value":0}},"identifier":"b"},{"bindType":"Rec","binds":[{"annotation":{"meta":null,"sourceSpan":{"end":[3,4],"start":[1,2]}},"expression":{"annotation":{"meta":null,"sourceSpan":{"end":[3,4],"start":[1,2]}},"type":"Literal","value":{"literalType":"IntLiteral","value":1}},"identifier":"a'"},{"annotation":{"meta":null,"sourceSpan":{"end":[3,4],"start":[1,2]}},"expression":{"annotation":{"meta":null,"sourceSpan":{"end":[3,4],"start":[1,2]}},"type":"Literal","value":{"literalType":"IntLiteral","value":2}},"identifier":"new"}]}],"exports":["$$new","a$27$","b"],"foreign":["f'","größe"],"imports":[["A"],["Data","Maybe"]],"moduleName":["M"],"reExports":{"A":["x"],"Data.Maybe":["Just","Nothing"]},"sourceSpan":{"end":[3,4],"start":[1,2]}}"#

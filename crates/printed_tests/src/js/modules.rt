@@ -1,82 +1,21 @@
 //! Modules from texts: a tree in the notation, and the text that is printed of it.
 
-use crate::js::notation::{bindings, module_name};
 use crate::js::texts;
-use psc_core_tree::{CoreModule, ReExport};
-use psc_items::SharedItems;
+use crate::rows::{HERE, Row, core_of, plain};
 use psc_js::{js_text, js_tree};
-use psc_text::{Ident, ModuleName, NoMemory, Span, Text};
+use psc_js_tree::JsModule;
+use psc_text::{NoMemory, Text};
 use std::alloc::Global;
 use std::process::Abort;
 use std::test::Fail;
 
-/// A module: its lists are words, a row of the re-exports begins with the module's name, and its bindings
-/// are in the notation.
-#[derive(Clone, Copy)]
-struct Row {
-    name: &'static str,
-    imports: &'static str,
-    foreign: &'static str,
-    exports: &'static str,
-    re_exports: &'static [&'static str],
-    binds: &'static str,
-}
-
-fn texts_of(alloc: Global, words: &str) -> Result<SharedItems<Text>, NoMemory> {
-    let mut texts = Vec::new(alloc);
-    for word in words.split_whitespace() {
-        texts.push(Text::new(alloc, word)?)?;
-    }
-    Ok(SharedItems::from_vec(alloc, texts)?)
-}
-
-fn idents_of(alloc: Global, words: &str) -> Result<SharedItems<Ident>, NoMemory> {
-    let mut idents = Vec::new(alloc);
-    for word in words.split_whitespace() {
-        idents.push(Ident(Text::new(alloc, word)?))?;
-    }
-    Ok(SharedItems::from_vec(alloc, idents)?)
-}
-
-fn modules_of(alloc: Global, words: &str) -> Result<SharedItems<ModuleName>, NoMemory> {
-    let mut names = Vec::new(alloc);
-    for word in words.split_whitespace() {
-        names.push(module_name(alloc, word)?)?;
-    }
-    Ok(SharedItems::from_vec(alloc, names)?)
-}
-
-fn re_export(alloc: Global, row: &str) -> Result<ReExport, NoMemory> {
-    let (name, words) = row.split_once(' ').ok_or(NoMemory)?;
-    Ok(ReExport {
-        module: module_name(alloc, name)?,
-        names: texts_of(alloc, words)?,
-    })
-}
-
-fn re_exports_of(alloc: Global, rows: &[&str]) -> Result<SharedItems<ReExport>, NoMemory> {
-    let mut made = Vec::new(alloc);
-    for row in rows {
-        made.push(re_export(alloc, *row)?)?;
-    }
-    Ok(SharedItems::from_vec(alloc, made)?)
-}
-
-fn core_of(alloc: Global, row: &Row) -> Result<CoreModule, NoMemory> {
-    Ok(CoreModule {
-        name: module_name(alloc, row.name)?,
-        span: Span::START,
-        imports: modules_of(alloc, row.imports)?,
-        exports: texts_of(alloc, row.exports)?,
-        re_exports: re_exports_of(alloc, row.re_exports)?,
-        foreign: idents_of(alloc, row.foreign)?,
-        decls: bindings(alloc, row.name, row.binds)?,
-    })
+fn tree_of(alloc: Global, row: &Row) -> Result<JsModule, NoMemory> {
+    let core = core_of(alloc, HERE, row)?;
+    js_tree(alloc, &core)
 }
 
 fn text_of(alloc: Global, row: &Row) -> Result<Text, NoMemory> {
-    let core = core_of(alloc, row)?;
-    let tree = js_tree(alloc, &core)?;
+    let tree = tree_of(alloc, row)?;
     js_text(alloc, &tree)
 }
 
@@ -85,18 +24,6 @@ fn shows(rt: &impl Abort, alloc: Global, row: &Row, expected: &str) -> Result<()
     let text = text_of(alloc, row)?;
     assert_eq!(rt; text.as_str(), expected);
     Ok(())
-}
-
-/// A module without imports, foreign values and re-exports.
-fn plain(name: &'static str, exports: &'static str, binds: &'static str) -> Row {
-    Row {
-        name,
-        imports: "",
-        foreign: "",
-        exports,
-        re_exports: &[],
-        binds,
-    }
 }
 
 /// `module M where` and `x = 1`.

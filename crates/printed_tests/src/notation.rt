@@ -5,12 +5,14 @@
 //! has its length before it.
 //!
 //! - Expressions: `.int N`, `.str TEXT`, `.chr C`, `.true`, `.false`, `.array N e..`, `.object N field..`,
-//!   `.local X`, `.own X`, `.of MODULE X`, `.get LABEL e`, `.update N e field..`, `.lambda X e`, `.call f e`,
-//!   `.constructor C N X..`, `.let N bind.. e`, `.case N M e.. alternative..`
+//!   `.local X`, `.own X`, `.of MODULE X`, `.of-foreign MODULE X`, `.of-newtype MODULE X`, `.get LABEL e`,
+//!   `.update N e field..`, `.lambda X e`, `.call f e`, `.constructor C N X..`, `.sum C N X..`, `.product C N X..`,
+//!   `.let N bind.. e`, `.where N bind.. e`, `.case N M e.. alternative..`
 //! - Their parts: `.field LABEL e`, `.bind X e`, `.rec N binding..`, `.binding X e`, `.gives N binder.. e`,
 //!   `.guards N M binder.. guard..`, `.when g e`
 //! - Binders: `.any`, `.var X`, `.named X b`, `.is-int N`, `.is-str TEXT`, `.is-chr C`, `.is-true`, `.is-false`,
-//!   `.is-array N b..`, `.is-object N part..`, `.part LABEL b`, `.made C N b..`, `.newtype C b`
+//!   `.is-array N b..`, `.is-object N part..`, `.part LABEL b`, `.made C N b..`, `.newtype C b`,
+//!   `.is-sum MODULE T C N X.. N b..`, `.is-newtype MODULE T C b`
 //!
 //! The words are read from the last one on, so that what a node is made of lies on stacks. A text that is
 //! not of the notation answers as if memory ran out, and the test that has it fails.
@@ -28,6 +30,7 @@ use std::alloc::Global;
 #[derive(Drop)]
 struct Stacks {
     alloc: Global,
+    span: Span,
     home: Text,
     words: Vec<Text>,
     exprs: Vec<CoreExpr>,
@@ -40,8 +43,18 @@ struct Stacks {
     parts: Vec<BinderField>,
 }
 
-fn ann() -> Ann {
-    Ann::plain(Span::START)
+/// Bindings and what they are for.
+#[derive(Drop)]
+struct Scoped {
+    binds: Items<CoreBind>,
+    body: Boxed<CoreExpr>,
+}
+
+/// The names of a constructor and of its type.
+#[derive(Drop)]
+struct Made {
+    type_name: Qualified,
+    constructor_name: Qualified,
 }
 
 /// The topmost ones of a stack.
@@ -83,17 +96,17 @@ pub fn module_name(alloc: Global, name: &str) -> Result<ModuleName, NoMemory> {
 }
 
 fn qualified(alloc: Global, owner: &Text, name: Text) -> Result<Qualified, NoMemory> {
-    Ok(Qualified {
-        module: Some(module_name(alloc, owner.as_str())?),
-        name,
-    })
+    let module = Some(module_name(alloc, owner.as_str())?);
+    Ok(Qualified { module, name })
 }
 
 impl Stacks {
-    fn new(alloc: Global, home: &str) -> Result<Stacks, NoMemory> {
+    fn new(alloc: Global, span: Span, home: &str) -> Result<Stacks, NoMemory> {
+        let home = Text::new(alloc, home)?;
         Ok(Stacks {
             alloc,
-            home: Text::new(alloc, home)?,
+            span,
+            home,
             words: Vec::new(alloc),
             exprs: Vec::new(alloc),
             fields: Vec::new(alloc),
@@ -104,6 +117,10 @@ impl Stacks {
             binders: Vec::new(alloc),
             parts: Vec::new(alloc),
         })
+    }
+
+    fn ann(&self) -> Ann {
+        Ann::plain(self.span)
     }
 
     fn word(&mut self) -> Result<Text, NoMemory> {
@@ -151,13 +168,25 @@ impl Stacks {
         self.binders.pop().ok_or(NoMemory)
     }
 
+    fn boxed_binder(&mut self) -> Result<Boxed<CoreBinder>, NoMemory> {
+        let binder = self.binder()?;
+        Ok(Boxed::new(self.alloc, binder)?)
+    }
+
+    /// The topmost binders, of which there is a count.
+    fn counted_binders(&mut self) -> Result<Items<CoreBinder>, NoMemory> {
+        let count = self.count()?;
+        take(self.alloc, &mut self.binders, count)
+    }
+
     fn put(&mut self, expr: CoreExpr) -> Result<(), NoMemory> {
         self.exprs.push(expr)?;
         Ok(())
     }
 
     fn put_literal(&mut self, value: Literal) -> Result<(), NoMemory> {
-        self.put(CoreExpr::Literal { ann: ann(), value })
+        let ann = self.ann();
+        self.put(CoreExpr::Literal { ann, value })
     }
 
     fn put_binder(&mut self, binder: CoreBinder) -> Result<(), NoMemory> {
@@ -166,7 +195,8 @@ impl Stacks {
     }
 
     fn put_is(&mut self, value: BinderLiteral) -> Result<(), NoMemory> {
-        self.put_binder(CoreBinder::Literal { ann: ann(), value })
+        let ann = self.ann();
+        self.put_binder(CoreBinder::Literal { ann, value })
     }
 
     fn array(&mut self) -> Result<(), NoMemory> {
@@ -181,33 +211,59 @@ impl Stacks {
         self.put_literal(Literal::Object(fields))
     }
 
-    fn put_name(&mut self, name: Qualified) -> Result<(), NoMemory> {
-        self.put(CoreExpr::Var { ann: ann(), name })
+    fn put_name(&mut self, meta: Meta, name: Qualified) -> Result<(), NoMemory> {
+        let span = self.span;
+        let ann = Ann { span, meta };
+        self.put(CoreExpr::Var { ann, name })
     }
 
     fn local(&mut self) -> Result<(), NoMemory> {
         let name = self.word()?;
-        self.put_name(Qualified { module: None, name })
+        self.put_name(Meta::NoMeta, Qualified { module: None, name })
     }
 
     fn own(&mut self) -> Result<(), NoMemory> {
         let name = self.word()?;
-        let name = qualified(self.alloc, &self.home, name)?;
-        self.put_name(name)
+        let name = self.of_home(name)?;
+        self.put_name(Meta::NoMeta, name)
+    }
+
+    fn of_home(&self, name: Text) -> Result<Qualified, NoMemory> {
+        qualified(self.alloc, &self.home, name)
+    }
+
+    fn word_of(&mut self, owner: &Text) -> Result<Qualified, NoMemory> {
+        let name = self.word()?;
+        qualified(self.alloc, owner, name)
+    }
+
+    /// A name behind that of its module.
+    fn far_name(&mut self) -> Result<Qualified, NoMemory> {
+        let owner = self.word()?;
+        self.word_of(&owner)
     }
 
     fn of(&mut self) -> Result<(), NoMemory> {
-        let owner = self.word()?;
-        let name = self.word()?;
-        let name = qualified(self.alloc, &owner, name)?;
-        self.put_name(name)
+        let name = self.far_name()?;
+        self.put_name(Meta::NoMeta, name)
+    }
+
+    fn of_foreign(&mut self) -> Result<(), NoMemory> {
+        let name = self.far_name()?;
+        self.put_name(Meta::IsForeign, name)
+    }
+
+    fn of_newtype(&mut self) -> Result<(), NoMemory> {
+        let name = self.far_name()?;
+        self.put_name(Meta::IsNewtype, name)
     }
 
     fn get(&mut self) -> Result<(), NoMemory> {
         let label = self.label()?;
         let subject = self.boxed()?;
+        let ann = self.ann();
         self.put(CoreExpr::Accessor {
-            ann: ann(),
+            ann,
             subject,
             label,
         })
@@ -217,8 +273,9 @@ impl Stacks {
         let count = self.count()?;
         let subject = self.boxed()?;
         let updates = take(self.alloc, &mut self.fields, count)?;
+        let ann = self.ann();
         self.put(CoreExpr::ObjectUpdate {
-            ann: ann(),
+            ann,
             subject,
             updates,
         })
@@ -227,8 +284,9 @@ impl Stacks {
     fn lambda(&mut self) -> Result<(), NoMemory> {
         let argument = self.ident()?;
         let body = self.boxed()?;
+        let ann = self.ann();
         self.put(CoreExpr::Abs {
-            ann: ann(),
+            ann,
             argument,
             body,
         })
@@ -237,43 +295,90 @@ impl Stacks {
     fn call(&mut self) -> Result<(), NoMemory> {
         let function = self.boxed()?;
         let argument = self.boxed()?;
+        let ann = self.ann();
         self.put(CoreExpr::App {
-            ann: ann(),
+            ann,
             function,
             argument,
         })
+    }
+
+    fn put_ident(&mut self, idents: &mut Vec<Ident>) -> Result<(), NoMemory> {
+        let ident = self.ident()?;
+        idents.push(ident)?;
+        Ok(())
     }
 
     fn idents(&mut self) -> Result<SharedItems<Ident>, NoMemory> {
         let count = self.count()?;
         let mut idents = Vec::new(self.alloc);
         for _turn in 0..count {
-            idents.push(self.ident()?)?;
+            self.put_ident(&mut idents)?;
         }
         Ok(SharedItems::from_vec(self.alloc, idents)?)
     }
 
-    fn constructor(&mut self) -> Result<(), NoMemory> {
-        let constructor_name = self.word()?;
-        let field_names = self.idents()?;
-        let type_name = Text::new(self.alloc, "T")?;
+    fn type_name(&self) -> Result<Text, NoMemory> {
+        Text::new(self.alloc, "T")
+    }
+
+    fn put_constructor(
+        &mut self,
+        meta: Meta,
+        type_name: Text,
+        constructor_name: Text,
+        field_names: SharedItems<Ident>,
+    ) -> Result<(), NoMemory> {
+        let span = self.span;
         self.put(CoreExpr::Constructor {
-            ann: ann(),
+            ann: Ann { span, meta },
             type_name,
             constructor_name,
             field_names,
         })
     }
 
-    fn let_in(&mut self) -> Result<(), NoMemory> {
+    fn constructor(&mut self) -> Result<(), NoMemory> {
+        let name = self.word()?;
+        let fields = self.idents()?;
+        let type_name = self.type_name()?;
+        self.put_constructor(Meta::NoMeta, type_name, name, fields)
+    }
+
+    fn known_constructor(&mut self, sum: bool) -> Result<(), NoMemory> {
+        let name = self.word()?;
+        let fields = self.idents()?;
+        let type_name = self.type_name()?;
+        let identifiers = fields.clone()?;
+        let meta = Meta::IsConstructor { sum, identifiers };
+        self.put_constructor(meta, type_name, name, fields)
+    }
+
+    fn bound(&mut self) -> Result<Scoped, NoMemory> {
         let count = self.count()?;
         let binds = take(self.alloc, &mut self.binds, count)?;
         let body = self.boxed()?;
+        Ok(Scoped { binds, body })
+    }
+
+    fn put_local(&mut self, meta: Meta, local: Scoped) -> Result<(), NoMemory> {
+        let span = self.span;
+        let Scoped { binds, body } = local;
         self.put(CoreExpr::Let {
-            ann: ann(),
+            ann: Ann { span, meta },
             binds,
             body,
         })
+    }
+
+    fn let_in(&mut self) -> Result<(), NoMemory> {
+        let local = self.bound()?;
+        self.put_local(Meta::NoMeta, local)
+    }
+
+    fn where_in(&mut self) -> Result<(), NoMemory> {
+        let local = self.bound()?;
+        self.put_local(Meta::IsWhere, local)
     }
 
     fn case_of(&mut self) -> Result<(), NoMemory> {
@@ -281,8 +386,9 @@ impl Stacks {
         let alternatives = self.count()?;
         let subjects = take(self.alloc, &mut self.exprs, subjects)?;
         let alternatives = take(self.alloc, &mut self.alternatives, alternatives)?;
+        let ann = self.ann();
         self.put(CoreExpr::Case {
-            ann: ann(),
+            ann,
             subjects,
             alternatives,
         })
@@ -298,11 +404,8 @@ impl Stacks {
     fn new_binding(&mut self) -> Result<CoreBinding, NoMemory> {
         let name = self.ident()?;
         let body = self.expr()?;
-        Ok(CoreBinding {
-            ann: ann(),
-            name,
-            body,
-        })
+        let ann = self.ann();
+        Ok(CoreBinding { ann, name, body })
     }
 
     fn binding(&mut self) -> Result<(), NoMemory> {
@@ -324,13 +427,15 @@ impl Stacks {
         Ok(())
     }
 
-    fn gives(&mut self) -> Result<(), NoMemory> {
-        let count = self.count()?;
-        let binders = take(self.alloc, &mut self.binders, count)?;
-        let outcome = CoreOutcome::Always(self.expr()?);
-        self.alternatives
-            .push(CoreAlternative { binders, outcome })?;
+    fn put_alternative(&mut self, alternative: CoreAlternative) -> Result<(), NoMemory> {
+        self.alternatives.push(alternative)?;
         Ok(())
+    }
+
+    fn gives(&mut self) -> Result<(), NoMemory> {
+        let binders = self.counted_binders()?;
+        let outcome = CoreOutcome::Always(self.expr()?);
+        self.put_alternative(CoreAlternative { binders, outcome })
     }
 
     fn guards(&mut self) -> Result<(), NoMemory> {
@@ -338,36 +443,40 @@ impl Stacks {
         let guards = self.count()?;
         let binders = take(self.alloc, &mut self.binders, binders)?;
         let outcome = CoreOutcome::Guarded(take(self.alloc, &mut self.guards, guards)?);
-        self.alternatives
-            .push(CoreAlternative { binders, outcome })?;
-        Ok(())
+        self.put_alternative(CoreAlternative { binders, outcome })
     }
 
     fn when(&mut self) -> Result<(), NoMemory> {
         let guard = self.expr()?;
+        self.put_guard(guard)
+    }
+
+    fn put_guard(&mut self, guard: CoreExpr) -> Result<(), NoMemory> {
         let body = self.expr()?;
         self.guards.push(CoreGuarded { guard, body })?;
         Ok(())
     }
 
+    fn put_any(&mut self) -> Result<(), NoMemory> {
+        let ann = self.ann();
+        self.put_binder(CoreBinder::Null { ann })
+    }
+
     fn var(&mut self) -> Result<(), NoMemory> {
         let name = self.ident()?;
-        self.put_binder(CoreBinder::Var { ann: ann(), name })
+        let ann = self.ann();
+        self.put_binder(CoreBinder::Var { ann, name })
     }
 
     fn named(&mut self) -> Result<(), NoMemory> {
         let name = self.ident()?;
-        let binder = Boxed::new(self.alloc, self.binder()?)?;
-        self.put_binder(CoreBinder::Named {
-            ann: ann(),
-            name,
-            binder,
-        })
+        let binder = self.boxed_binder()?;
+        let ann = self.ann();
+        self.put_binder(CoreBinder::Named { ann, name, binder })
     }
 
     fn is_array(&mut self) -> Result<(), NoMemory> {
-        let count = self.count()?;
-        let parts = take(self.alloc, &mut self.binders, count)?;
+        let parts = self.counted_binders()?;
         self.put_is(BinderLiteral::Array(parts))
     }
 
@@ -384,31 +493,80 @@ impl Stacks {
         Ok(())
     }
 
-    fn put_made(&mut self, meta: Meta, name: Text, count: usize) -> Result<(), NoMemory> {
-        let binders = take(self.alloc, &mut self.binders, count)?;
-        let constructor_name = qualified(self.alloc, &self.home, name)?;
-        let type_name = Text::new(self.alloc, "T")?;
-        let type_name = qualified(self.alloc, &self.home, type_name)?;
+    fn put_made(
+        &mut self,
+        meta: Meta,
+        made: Made,
+        binders: Items<CoreBinder>,
+    ) -> Result<(), NoMemory> {
+        let span = self.span;
+        let Made {
+            type_name,
+            constructor_name,
+        } = made;
         self.put_binder(CoreBinder::Constructor {
-            ann: Ann {
-                span: Span::START,
-                meta,
-            },
+            ann: Ann { span, meta },
             type_name,
             constructor_name,
             binders,
         })
     }
 
-    fn made(&mut self) -> Result<(), NoMemory> {
+    fn type_of_home(&self) -> Result<Qualified, NoMemory> {
+        let name = self.type_name()?;
+        self.of_home(name)
+    }
+
+    /// The names of a constructor of the module's own type `T`.
+    fn own_made(&mut self) -> Result<Made, NoMemory> {
         let name = self.word()?;
-        let count = self.count()?;
-        self.put_made(Meta::NoMeta, name, count)
+        let constructor_name = self.of_home(name)?;
+        let type_name = self.type_of_home()?;
+        Ok(Made {
+            type_name,
+            constructor_name,
+        })
+    }
+
+    /// The names of a constructor of a module's type.
+    fn made_of(&mut self) -> Result<Made, NoMemory> {
+        let owner = self.word()?;
+        let type_name = self.word_of(&owner)?;
+        let constructor_name = self.word_of(&owner)?;
+        Ok(Made {
+            type_name,
+            constructor_name,
+        })
+    }
+
+    fn made(&mut self) -> Result<(), NoMemory> {
+        let made = self.own_made()?;
+        let binders = self.counted_binders()?;
+        self.put_made(Meta::NoMeta, made, binders)
+    }
+
+    fn one_binder(&mut self) -> Result<Items<CoreBinder>, NoMemory> {
+        take(self.alloc, &mut self.binders, 1)
     }
 
     fn newtype(&mut self) -> Result<(), NoMemory> {
-        let name = self.word()?;
-        self.put_made(Meta::IsNewtype, name, 1)
+        let made = self.own_made()?;
+        let binders = self.one_binder()?;
+        self.put_made(Meta::IsNewtype, made, binders)
+    }
+
+    fn is_newtype(&mut self) -> Result<(), NoMemory> {
+        let made = self.made_of()?;
+        let binders = self.one_binder()?;
+        self.put_made(Meta::IsNewtype, made, binders)
+    }
+
+    fn is_sum(&mut self) -> Result<(), NoMemory> {
+        let made = self.made_of()?;
+        let identifiers = self.idents()?;
+        let binders = self.counted_binders()?;
+        let sum = true;
+        self.put_made(Meta::IsConstructor { sum, identifiers }, made, binders)
     }
 
     fn literal_text(&mut self) -> Result<(), NoMemory> {
@@ -454,12 +612,17 @@ impl Stacks {
             ".local" => self.local(),
             ".own" => self.own(),
             ".of" => self.of(),
+            ".of-foreign" => self.of_foreign(),
+            ".of-newtype" => self.of_newtype(),
             ".get" => self.get(),
             ".update" => self.update(),
             ".lambda" => self.lambda(),
             ".call" => self.call(),
             ".constructor" => self.constructor(),
+            ".sum" => self.known_constructor(true),
+            ".product" => self.known_constructor(false),
             ".let" => self.let_in(),
+            ".where" => self.where_in(),
             ".case" => self.case_of(),
             _ => self.read_part(word),
         }
@@ -482,7 +645,7 @@ impl Stacks {
     /// Makes a binder.
     fn read_binder(&mut self, word: &str) -> Result<(), NoMemory> {
         match word {
-            ".any" => self.put_binder(CoreBinder::Null { ann: ann() }),
+            ".any" => self.put_any(),
             ".var" => self.var(),
             ".named" => self.named(),
             ".is-int" => self.is_number(),
@@ -495,31 +658,62 @@ impl Stacks {
             ".part" => self.part(),
             ".made" => self.made(),
             ".newtype" => self.newtype(),
+            ".is-sum" => self.is_sum(),
+            ".is-newtype" => self.is_newtype(),
             _ => Err(NoMemory),
         }
+    }
+
+    fn put_word(&mut self, word: &str) -> Result<(), NoMemory> {
+        let word = Text::new(self.alloc, word)?;
+        self.words.push(word)?;
+        Ok(())
     }
 
     fn read(&mut self, word: &str) -> Result<(), NoMemory> {
         if word.starts_with('.') {
             self.read_expr(word)
         } else {
-            let word = Text::new(self.alloc, word)?;
-            self.words.push(word)?;
-            Ok(())
+            self.put_word(word)
+        }
+    }
+
+    fn read_all(&mut self, words: &[&str]) -> Result<(), NoMemory> {
+        for word in words.iter().rev() {
+            self.read(*word)?;
+        }
+        Ok(())
+    }
+
+    /// The bindings, where nothing is left behind them.
+    fn ended(&mut self) -> Result<Items<CoreBind>, NoMemory> {
+        if self.words.is_empty() && self.exprs.is_empty() {
+            let count = self.binds.len();
+            take(self.alloc, &mut self.binds, count)
+        } else {
+            Err(NoMemory)
         }
     }
 }
 
-/// The bindings that a text of the notation has, where nothing is left behind them.
-pub fn bindings(alloc: Global, home: &str, text: &str) -> Result<Items<CoreBind>, NoMemory> {
+fn read_bindings(
+    alloc: Global,
+    span: Span,
+    home: &str,
+    words: &[&str],
+) -> Result<Items<CoreBind>, NoMemory> {
+    let mut stacks = Stacks::new(alloc, span, home)?;
+    stacks.read_all(words)?;
+    stacks.ended()
+}
+
+/// The bindings that a text of the notation has, whose nodes all stand at one place.
+pub fn bindings(
+    alloc: Global,
+    span: Span,
+    home: &str,
+    text: &str,
+) -> Result<Items<CoreBind>, NoMemory> {
     let words: Vec<&str> = text.split_whitespace().collect(alloc)?;
-    let mut stacks = Stacks::new(alloc, home)?;
-    for word in words.iter().rev() {
-        stacks.read(*word)?;
-    }
-    if !stacks.words.is_empty() || !stacks.exprs.is_empty() {
-        return Err(NoMemory);
-    }
-    let count = stacks.binds.len();
-    take(alloc, &mut stacks.binds, count)
+    read_bindings(alloc, span, home, words.as_slice())
 }

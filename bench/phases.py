@@ -1,10 +1,10 @@
 #!/usr/bin/env python3
-"""Times the names of modules that it makes. usage: bench/names.py [LINES]
+"""Times phases of modules that it makes. usage: bench/phases.py PROGRAM [LINES]
 
-Run `rt run` in crates/name_speed first: it proves and builds the program. Printed are, for each shape, the seconds that
-resolving takes at the number of declaration lines given (100,000) and at a tenth of it, how many times as long ten times the
-lines take, and the most memory of the process, which holds the source, the tree as written and the resolved one. Times are
-the program's own, best of five.
+PROGRAM is name_speed, which resolves names. Run `rt run` in crates/PROGRAM first: it proves and
+builds the program. Printed are, for each shape, the seconds that the phase takes at the number of declaration lines given
+(100,000) and at a tenth of it, how many times as long ten times the lines take, and the most memory of the
+process, which holds the source, the tree as written and what is made of it. Times are the program's own, best of five.
 """
 import os
 import resource
@@ -13,7 +13,6 @@ import sys
 import tempfile
 
 HERE = os.path.dirname(os.path.abspath(__file__))
-PROGRAM = os.path.join(HERE, "..", "crates", "name_speed", "out", "name_speed")
 
 
 def values(lines):
@@ -51,10 +50,12 @@ def statements(lines):
     yield "  f"
 
 
-SHAPES = {"values": values, "functions": functions, "types": types, "statements": statements}
+SHAPES = {
+    "name_speed": [values, functions, types, statements],
+}
 
 
-def run(shape, lines):
+def run(program, shape, lines):
     """The best microseconds of five runs, and the memory of the last in kilobytes."""
     with tempfile.TemporaryDirectory() as folder:
         path = os.path.join(folder, "M.purs")
@@ -62,20 +63,24 @@ def run(shape, lines):
             file.write("module M where\n" + "\n".join(shape(lines)) + "\n")
         best = None
         for _ in range(5):
-            text = subprocess.run([PROGRAM, path], check=True, stdout=subprocess.PIPE, text=True).stdout
+            text = subprocess.run([program, path], check=True, stdout=subprocess.PIPE, text=True).stdout
             took = int(text.split()[-1])
             best = took if best is None else min(best, took)
         return best / 1e6, resource.getrusage(resource.RUSAGE_CHILDREN).ru_maxrss
 
 
 def main():
-    lines = int(sys.argv[1]) if len(sys.argv) > 1 else 100_000
-    for name, shape in SHAPES.items():
-        small, _ = run(shape, lines // 10)
-        large, memory = run(shape, lines)
+    if len(sys.argv) < 2 or sys.argv[1] not in SHAPES:
+        sys.exit(__doc__)
+    name = sys.argv[1]
+    program = os.path.join(HERE, "..", "crates", name, "out", name)
+    lines = int(sys.argv[2]) if len(sys.argv) > 2 else 100_000
+    for shape in SHAPES[name]:
+        small, _ = run(program, shape, lines // 10)
+        large, memory = run(program, shape, lines)
         print(
             "%-10s %7d lines %6.3f s, %7d lines %6.3f s, %4.1f times, %5d MB at most so far"
-            % (name, lines // 10, small, lines, large, large / small, memory // 1024)
+            % (shape.__name__, lines // 10, small, lines, large, large / small, memory // 1024)
         )
 
 
