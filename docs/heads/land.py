@@ -36,7 +36,7 @@ def block(m):
     return m.group(2) if all(c in keep for c in m.group(1).split()) else ''
 r = re.sub(r'@IF ([^@]*)@\n(.*?)@END@\n', block, r, flags=re.S)
 r = r.replace('@ROWS@', '\n'.join(rows[c] for c in crates if c in rows))
-making = [w for w, c in (('names', 'psc_names'), ('plain forms', 'psc_desugar')) if c not in keep] + ['kinds', 'inference and builds of many modules']
+making = [w for w, c in (('names', 'psc_names'), ('operators of whole modules', 'psc_order'), ('plain forms', 'psc_desugar')) if c not in keep] + ['kinds', 'inference and builds of many modules']
 r = r.replace('@MAKING@', (', '.join(making[:-1]) + ', ' + making[-1]).capitalize() + ' are still in the making.')
 r = r.replace('@TOOLCHAIN@', subprocess.check_output(['rt', 'version'], text=True).strip())
 written = ', '.join(t for c, t in (('psc_externs_text', 'types and interface files'), ('psc_js', 'CoreFn, JavaScript')) if c in keep)

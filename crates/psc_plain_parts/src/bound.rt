@@ -79,11 +79,7 @@ fn literal(tree: &BinderTree) -> Result<PlainBinder, NoMemory> {
     }
 }
 
-fn variable(
-    state: &mut Desugar,
-    name: &IdentAt,
-    names: &mut Names,
-) -> Result<PlainBinder, Stop> {
+fn variable(state: &mut Desugar, name: &IdentAt, names: &mut Names) -> Result<PlainBinder, Stop> {
     bind(state, names, &name.name.0, name.span)?;
     Ok(PlainBinder::Variable {
         name: name.name.clone()?,
@@ -100,11 +96,7 @@ fn boxed(alloc: Global, binder: PlainBinder) -> Result<Boxed<PlainBinder>, NoMem
 
 /// `(b :: t)`
 #[cycle(binders)]
-fn typed(
-    state: &mut Desugar,
-    tree: &BinderTree,
-    names: &mut Names,
-) -> Result<PlainBinder, Stop> {
+fn typed(state: &mut Desugar, tree: &BinderTree, names: &mut Names) -> Result<PlainBinder, Stop> {
     match tree {
         BinderTree::Typed {
             inner,
@@ -245,11 +237,7 @@ fn operands(
 
 /// `x@y@b`, one name at a time.
 #[cycle(binders)]
-fn named(
-    state: &mut Desugar,
-    tree: &BinderTree,
-    names: &mut Names,
-) -> Result<PlainBinder, Stop> {
+fn named(state: &mut Desugar, tree: &BinderTree, names: &mut Names) -> Result<PlainBinder, Stop> {
     match tree {
         BinderTree::Named {
             names: own,

@@ -26,7 +26,7 @@ pub use build::{
 pub use groups::groups_of;
 pub use kinds::{kind, kind_of_var};
 pub use names::instance_names;
-pub use runs::{Mark, marks_of_binds, marks_of_decls, marks_of_members, mark_at};
+pub use runs::{Mark, mark_at, marks_of_binds, marks_of_decls, marks_of_members};
 pub use scope::Scope;
 pub use seen::Names;
 pub use state::{Desugar, Numbers};

@@ -91,11 +91,7 @@ fn one_part(alloc: Global, part: Text) -> Result<SharedItems<Text>, NoMemory>
 }
 
 /// The error of a module.
-pub fn error_of(
-    alloc: Global,
-    module: &ModuleName,
-    problem: Problem,
-) -> Result<PsError, NoMemory>
+pub fn error_of(alloc: Global, module: &ModuleName, problem: Problem) -> Result<PsError, NoMemory>
     ensures { IfOk result (λ error. error ≡ spec.error_of module.now problem) }
 {
     let Problem { fault, span, part } = problem;

@@ -191,11 +191,7 @@ pub fn typs(alloc: Global, trees: &[TypeTree]) -> Result<Items<PlainType>, NoMem
 }
 
 #[cycle(types)]
-fn add_type(
-    alloc: Global,
-    tree: &TypeTree,
-    list: &mut Items<PlainType>,
-) -> Result<(), NoMemory> {
+fn add_type(alloc: Global, tree: &TypeTree, list: &mut Items<PlainType>) -> Result<(), NoMemory> {
     let one = typ(alloc, tree)?;
     list.push(one)?;
     Ok(())
@@ -294,11 +290,7 @@ fn fronts(alloc: Global, prefixes: &[TypePrefix]) -> Result<Vec<Front>, NoMemory
 }
 
 #[cycle(types)]
-fn add_fronts(
-    alloc: Global,
-    prefix: &TypePrefix,
-    list: &mut Vec<Front>,
-) -> Result<(), NoMemory> {
+fn add_fronts(alloc: Global, prefix: &TypePrefix, list: &mut Vec<Front>) -> Result<(), NoMemory> {
     match prefix {
         TypePrefix::Forall { vars, span } => add_vars(alloc, vars.as_slice(), *span, list),
         TypePrefix::Given { constraints, span } => {
@@ -388,12 +380,7 @@ fn behind_one(
 }
 
 /// The type of functions from one type to another.
-fn arrow(
-    alloc: Global,
-    from: PlainType,
-    to: PlainType,
-    span: Span,
-) -> Result<PlainType, NoMemory> {
+fn arrow(alloc: Global, from: PlainType, to: PlainType, span: Span) -> Result<PlainType, NoMemory> {
     match arrow_from(alloc, from, span) {
         Ok(function) => application(alloc, function, to, span),
         Err(error) => Err(error),
