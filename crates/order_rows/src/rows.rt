@@ -90,6 +90,17 @@ fn bracketed_text(alloc: Global, module: Module, look: Look) -> Result<String, N
     }
 }
 
+/// Notes in the report what a row gave where it should have given something else.
+fn note_difference(report: &mut String, name: &str, got: &str, want: &str) -> Result<(), NoMemory> {
+    report.push_str(name)?;
+    report.push_str("\n  got  ")?;
+    report.push_str(got)?;
+    report.push_str("\n  want ")?;
+    report.push_str(want)?;
+    report.push('\n')?;
+    Ok(())
+}
+
 impl Rows {
     fn new(alloc: Global) -> Rows {
         Rows {
@@ -158,17 +169,7 @@ impl Rows {
     /// Notes what a row gave where it should have given something else.
     fn differ(&mut self, got: &str, want: &str) -> Result<(), NoMemory> {
         self.differing = self.differing.saturating_add(1);
-        for part in [
-            self.name.as_str(),
-            "\n  got  ",
-            got,
-            "\n  want ",
-            want,
-            "\n",
-        ] {
-            self.report.push_str(part)?;
-        }
-        Ok(())
+        note_difference(&mut self.report, self.name.as_str(), got, want)
     }
 
     /// Reads a line that adds to the row's source, or one that says what it must give.

@@ -1,449 +1,579 @@
 //! Expressions without chains.
-//!
-//! A function has one or two steps that may fail and few values beside them, so that its proof has little to drop.
 
 ghost use Rattle.std.specs.Prelude.{◌≡◌, ◌<◌, ◌↔◌, ◌⊎◌, IsTrue};
 
-use crate::state::{Bracketing, FUEL, Space, in_order};
-use crate::types::x_type;
-use psc_ast::{ExprTree, Field, LabelAt, Mention, TypeTree, Update};
+use crate::binders::binder_list;
+use crate::binds::{alternatives, bind_list, statements};
+use crate::copies::{label, labels, mention};
+use crate::state::{Bracketing, FUEL, Reading, Space};
+use crate::types::boxed as boxed_type;
+use psc_ast::{ChainStep, ExprTree, Field, TickStep, Update};
 use psc_chain::{Size, levels};
 use psc_text::{NoMemory, Span};
 use sqlite_items::{Boxed, Items};
-use std::alloc::Global;
 
-impl Bracketing {
-    /// An expression with its chains as trees.
-    #[cycle(exprs)]
-    pub(crate) fn expr(
-        &mut self,
-        tree: ExprTree,
-        fuel: u32,
-        size: &mut Size,
-    ) -> Result<ExprTree, NoMemory> {
-        if fuel == 0 {
-            self.too_deep = true;
-            return Ok(tree);
-        }
-        let fuel = fuel - 1;
-        match tree {
-            ExprTree::Chain { first, rest, span } => self.chain(first, rest, span, fuel, size),
-            ExprTree::Ticks { first, rest, span } => self.ticks(first, rest, span, fuel, size),
-            ExprTree::Operation {
-                op,
-                left,
-                right,
-                span,
-            } => self.operation(op, left, right, span, fuel, size),
-            ExprTree::Typed {
-                value,
-                x_type: written,
-                span,
-            } => self.typed(value, written, span, fuel, size),
-            ExprTree::Negate {
-                minus,
-                operand,
-                span,
-            } => self.negated(minus, operand, span, fuel, size),
-            ExprTree::Call {
-                function,
-                arguments,
-                span,
-            } => self.call(function, arguments, span, fuel, size),
-            ExprTree::Lambda {
-                binders,
-                body,
-                span,
-            } => self.lambda(binders, body, span, fuel, size),
-            ExprTree::If {
-                test,
-                then,
-                otherwise,
-                span,
-            } => self.choice(test, then, otherwise, span, fuel, size),
-            ExprTree::Case {
-                scrutinees,
-                alternatives: list,
-                span,
-            } => self.case_of(scrutinees, list, span, fuel, size),
-            ExprTree::Let { binds, body, span } => self.let_in(binds, body, span, fuel, size),
-            ExprTree::Do {
-                statements: list,
-                span,
-            } => self.do_block(list, span, fuel, size),
-            ExprTree::Ado {
-                statements: list,
-                result: body,
-                span,
-            } => self.ado_block(list, body, span, fuel, size),
-            ExprTree::Access {
-                subject,
-                labels,
-                span,
-            } => self.access(subject, labels, span, fuel, size),
-            ExprTree::Update {
-                subject,
-                updates,
-                span,
-            } => self.update(subject, updates, span, fuel, size),
-            ExprTree::Paren { inner, span } => self.paren(inner, span, fuel, size),
-            ExprTree::Array { items, span } => self.array(items, span, fuel, size),
-            ExprTree::XRecord { fields, span } => self.record(fields, span, fuel, size),
-            ExprTree::Operator { name, span } => operator(self, &name, span, size),
-            ExprTree::Integer { .. }
-            | ExprTree::Str { .. }
-            | ExprTree::Character { .. }
-            | ExprTree::Boolean { .. }
-            | ExprTree::Variable { .. }
-            | ExprTree::Constructor { .. }
-            | ExprTree::Hole { .. } => Ok(tree),
-        }
-    }
-
-    #[cycle(exprs)]
-    pub(crate) fn boxed(
-        &mut self,
-        tree: Boxed<ExprTree>,
-        fuel: u32,
-        size: &mut Size,
-    ) -> Result<Boxed<ExprTree>, NoMemory> {
-        let alloc = self.alloc;
-        let tree = self.expr(tree.into_inner(), fuel, size)?;
-        Ok(Boxed::new(alloc, tree)?)
-    }
-
-    /// Two expressions behind one another.
-    #[cycle(exprs)]
-    pub(crate) fn both(
-        &mut self,
-        first: Boxed<ExprTree>,
-        second: Boxed<ExprTree>,
-        fuel: u32,
-        size: &mut Size,
-    ) -> Result<(Boxed<ExprTree>, Boxed<ExprTree>), NoMemory> {
-        match self.boxed(first, fuel, size) {
-            Ok(first) => match self.boxed(second, fuel, size) {
-                Ok(second) => Ok((first, second)),
-                Err(error) => Err(error),
-            },
-            Err(error) => Err(error),
-        }
-    }
-
-    #[cycle(exprs)]
-    fn operation(
-        &mut self,
-        op: Mention,
-        left: Boxed<ExprTree>,
-        right: Boxed<ExprTree>,
-        span: Span,
-        fuel: u32,
-        size: &mut Size,
-    ) -> Result<ExprTree, NoMemory> {
-        match self.both(left, right, fuel, size) {
-            Ok((left, right)) => Ok(ExprTree::Operation {
-                op,
-                left,
-                right,
-                span,
-            }),
-            Err(error) => Err(error),
-        }
-    }
-
-    #[cycle(exprs)]
-    fn typed(
-        &mut self,
-        value: Boxed<ExprTree>,
-        written: Boxed<TypeTree>,
-        span: Span,
-        fuel: u32,
-        size: &mut Size,
-    ) -> Result<ExprTree, NoMemory> {
-        match self.boxed(value, fuel, size) {
-            Ok(value) => of_type(self, value, written, span, size),
-            Err(error) => Err(error),
-        }
-    }
-
-    #[cycle(exprs)]
-    fn negated(
-        &mut self,
-        minus: Span,
-        operand: Boxed<ExprTree>,
-        span: Span,
-        fuel: u32,
-        size: &mut Size,
-    ) -> Result<ExprTree, NoMemory> {
-        let mut inside = Size::NONE;
-        match self.boxed(operand, fuel, &mut inside) {
-            Ok(operand) => {
-                *size = size.then(inside.under(1));
-                Ok(ExprTree::Negate {
-                    minus,
-                    operand,
-                    span,
-                })
-            }
-            Err(error) => Err(error),
-        }
-    }
-
-    #[cycle(exprs)]
-    fn call(
-        &mut self,
-        function: Boxed<ExprTree>,
-        arguments: Items<ExprTree>,
-        span: Span,
-        fuel: u32,
-        size: &mut Size,
-    ) -> Result<ExprTree, NoMemory> {
-        let written = ends_before(function.get().span(), span);
-        match self.boxed(function, fuel, size) {
-            Ok(function) => match self.expr_list(arguments, written, fuel, size) {
-                Ok(arguments) => Ok(ExprTree::Call {
-                    function,
-                    arguments,
-                    span,
-                }),
-                Err(error) => Err(error),
-            },
-            Err(error) => Err(error),
-        }
-    }
-
-    /// Expressions behind one another. As arguments of a written call each is under as many levels more as there are up to it.
-    #[cycle(exprs)]
-    pub(crate) fn expr_list(
-        &mut self,
-        list: Items<ExprTree>,
-        as_arguments: bool,
-        fuel: u32,
-        size: &mut Size,
-    ) -> Result<Items<ExprTree>, NoMemory> {
-        let list = in_order(self.alloc, list)?;
-        let mut done = Items::new(self.alloc);
-        for next in list {
-            let mut inside = Size::NONE;
-            match self.expr(next, fuel, &mut inside) {
-                Ok(next) => done.push(next)?,
-                Err(error) => return Err(error),
-            }
-            *size = size.then(inside.under(if as_arguments { levels(done.len()) } else { 0 }));
-        }
-        Ok(done)
-    }
-
-    /// Expressions in brackets with commas between them.
-    #[cycle(exprs)]
-    fn beside(
-        &mut self,
-        list: Items<ExprTree>,
-        fuel: u32,
-        size: &mut Size,
-    ) -> Result<Items<ExprTree>, NoMemory> {
-        let list = in_order(self.alloc, list)?;
-        let mut done = Items::new(self.alloc);
-        let mut all = Size::NONE;
-        for next in list {
-            let mut inside = Size::NONE;
-            match self.expr(next, fuel, &mut inside) {
-                Ok(next) => done.push(next)?,
-                Err(error) => return Err(error),
-            }
-            all = all.beside(inside);
-        }
-        *size = size.then(all.enclosed());
-        Ok(done)
-    }
-
-    #[cycle(exprs)]
-    fn access(
-        &mut self,
-        subject: Boxed<ExprTree>,
-        labels: Items<LabelAt>,
-        span: Span,
-        fuel: u32,
-        size: &mut Size,
-    ) -> Result<ExprTree, NoMemory> {
-        match self.boxed(subject, fuel, size) {
-            Ok(subject) => Ok(ExprTree::Access {
-                subject,
-                labels,
-                span,
-            }),
-            Err(error) => Err(error),
-        }
-    }
-
-    #[cycle(exprs)]
-    fn update(
-        &mut self,
-        subject: Boxed<ExprTree>,
-        updates: Items<Update>,
-        span: Span,
-        fuel: u32,
-        size: &mut Size,
-    ) -> Result<ExprTree, NoMemory> {
-        match self.boxed(subject, fuel, size) {
-            Ok(subject) => match self.update_list(updates, fuel, size) {
-                Ok(updates) => Ok(ExprTree::Update {
-                    subject,
-                    updates,
-                    span,
-                }),
-                Err(error) => Err(error),
-            },
-            Err(error) => Err(error),
-        }
-    }
-
-    #[cycle(exprs)]
-    fn paren(
-        &mut self,
-        inner: Boxed<ExprTree>,
-        span: Span,
-        fuel: u32,
-        size: &mut Size,
-    ) -> Result<ExprTree, NoMemory> {
-        let mut inside = Size::NONE;
-        match self.boxed(inner, fuel, &mut inside) {
-            Ok(inner) => {
-                *size = size.then(inside.enclosed());
-                Ok(ExprTree::Paren { inner, span })
-            }
-            Err(error) => Err(error),
-        }
-    }
-
-    #[cycle(exprs)]
-    fn array(
-        &mut self,
-        items: Items<ExprTree>,
-        span: Span,
-        fuel: u32,
-        size: &mut Size,
-    ) -> Result<ExprTree, NoMemory> {
-        match self.beside(items, fuel, size) {
-            Ok(items) => Ok(ExprTree::Array { items, span }),
-            Err(error) => Err(error),
-        }
-    }
-
-    #[cycle(exprs)]
-    fn record(
-        &mut self,
-        fields: Items<Field>,
-        span: Span,
-        fuel: u32,
-        size: &mut Size,
-    ) -> Result<ExprTree, NoMemory> {
-        match self.field_list(fields, fuel, size) {
-            Ok(fields) => Ok(ExprTree::XRecord { fields, span }),
-            Err(error) => Err(error),
-        }
-    }
-
-    #[cycle(exprs)]
-    fn update_list(
-        &mut self,
-        updates: Items<Update>,
-        fuel: u32,
-        size: &mut Size,
-    ) -> Result<Items<Update>, NoMemory> {
-        let updates = in_order(self.alloc, updates)?;
-        let mut done = Items::new(self.alloc);
-        let mut all = Size::NONE;
-        for Update { label, value } in updates {
-            let mut inside = Size::NONE;
-            match self.boxed(value, fuel, &mut inside) {
-                Ok(value) => done.push(Update { label, value })?,
-                Err(error) => return Err(error),
-            }
-            all = all.beside(inside);
-        }
-        *size = size.then(all.enclosed());
-        Ok(done)
-    }
-
-    #[cycle(exprs)]
-    fn field_list(
-        &mut self,
-        fields: Items<Field>,
-        fuel: u32,
-        size: &mut Size,
-    ) -> Result<Items<Field>, NoMemory> {
-        let fields = in_order(self.alloc, fields)?;
-        let mut done = Items::new(self.alloc);
-        let mut all = Size::NONE;
-        for Field { label, value } in fields {
-            let mut inside = Size::NONE;
-            match self.written_value(value, fuel, &mut inside) {
-                Ok(value) => done.push(Field { label, value })?,
-                Err(error) => return Err(error),
-            }
-            all = all.beside(inside);
-        }
-        *size = size.then(all.enclosed());
-        Ok(done)
-    }
-
-    /// The expression behind a label, if one is written.
-    #[cycle(exprs)]
-    fn written_value(
-        &mut self,
-        value: Option<Boxed<ExprTree>>,
-        fuel: u32,
-        size: &mut Size,
-    ) -> Result<Option<Boxed<ExprTree>>, NoMemory> {
-        match value {
-            Some(value) => Ok(Some(self.boxed(value, fuel, size)?)),
-            None => Ok(None),
-        }
-    }
-}
-
-/// An operator in parentheses, which count as a level where they are not those of the name's own place.
-fn operator(
-    state: &Bracketing,
-    name: &Mention,
-    span: Span,
-    size: &mut Size,
-) -> Result<ExprTree, NoMemory> {
-    if name.span != span {
-        *size = size.then(Size::NONE.enclosed());
-    }
-    let name = state.target(name, Space::Values)?;
-    Ok(ExprTree::Operator { name, span })
-}
-
-/// An expression with a type, itself done.
-fn of_type(
+/// An expression with its chains as trees.
+#[cycle(exprs)]
+pub(crate) fn expr(
     state: &mut Bracketing,
-    value: Boxed<ExprTree>,
-    written: Boxed<TypeTree>,
-    span: Span,
+    tree: &ExprTree,
+    fuel: u32,
     size: &mut Size,
 ) -> Result<ExprTree, NoMemory> {
-    match x_type(state, written.into_inner(), FUEL, size) {
-        Ok(written) => with_type(state.alloc, value, written, span),
+    if fuel == 0 {
+        state.too_deep = true;
+        return Ok(hole(tree.span()));
+    }
+    let fuel = fuel - 1;
+    match tree {
+        ExprTree::Chain { .. } | ExprTree::Operation { .. } | ExprTree::Ticks { .. } => operators(
+            state, tree, fuel, size,
+        ),
+        ExprTree::Typed { .. } | ExprTree::Negate { .. } | ExprTree::Call { .. } => applied(
+            state, tree, fuel, size,
+        ),
+        ExprTree::Lambda { .. } | ExprTree::If { .. } | ExprTree::Case { .. } => form(
+            state, tree, fuel, size,
+        ),
+        ExprTree::Let { .. } | ExprTree::Do { .. } | ExprTree::Ado { .. } => block(
+            state, tree, fuel, size,
+        ),
+        ExprTree::Access { .. } | ExprTree::Update { .. } | ExprTree::Paren { .. } => part(
+            state, tree, fuel, size,
+        ),
+        ExprTree::Array { .. } | ExprTree::XRecord { .. } => brackets(state, tree, fuel, size),
+        ExprTree::Variable { .. } | ExprTree::Constructor { .. } | ExprTree::Operator { .. } =>
+            name(state, tree, size),
+        ExprTree::Integer { .. }
+        | ExprTree::Str { .. }
+        | ExprTree::Character { .. }
+        | ExprTree::Boolean { .. }
+        | ExprTree::Hole { .. } => literal(tree),
+    }
+}
+
+#[cycle(exprs)]
+pub(crate) fn boxed(
+    state: &mut Bracketing,
+    tree: &Boxed<ExprTree>,
+    fuel: u32,
+    size: &mut Size,
+) -> Result<Boxed<ExprTree>, NoMemory> {
+    let alloc = state.alloc;
+    let tree = expr(state, tree.get(), fuel, size)?;
+    Ok(Boxed::new(alloc, tree)?)
+}
+
+/// An expression under some levels more.
+#[cycle(exprs)]
+fn boxed_under(
+    state: &mut Bracketing,
+    tree: &Boxed<ExprTree>,
+    levels: u32,
+    fuel: u32,
+    size: &mut Size,
+) -> Result<Boxed<ExprTree>, NoMemory> {
+    let mut inside = Size::NONE;
+    match boxed(state, tree, fuel, &mut inside) {
+        Ok(found) => {
+            *size = size.then(inside.under(levels));
+            Ok(found)
+        }
         Err(error) => Err(error),
     }
 }
 
-fn with_type(
-    alloc: Global,
-    value: Boxed<ExprTree>,
-    written: TypeTree,
-    span: Span,
-) -> Result<ExprTree, NoMemory> {
-    match Boxed::new(alloc, written) {
-        Ok(written) => Ok(ExprTree::Typed {
-            value,
-            x_type: written,
-            span,
+/// Expressions behind one another. As arguments of a written call each is under as many levels more as there are up to it.
+#[cycle(exprs)]
+fn exprs(
+    state: &mut Bracketing,
+    trees: &[ExprTree],
+    as_arguments: bool,
+    fuel: u32,
+    size: &mut Size,
+) -> Result<Items<ExprTree>, NoMemory> {
+    let mut list = Items::new(state.alloc);
+    for tree in trees {
+        let mut inside = Size::NONE;
+        list.push(expr(state, tree, fuel, &mut inside)?)?;
+        *size = size.then(inside.under(if as_arguments { levels(list.len()) } else { 0 }));
+    }
+    Ok(list)
+}
+
+/// Expressions in brackets with commas between them.
+#[cycle(exprs)]
+fn beside(
+    state: &mut Bracketing,
+    trees: &[ExprTree],
+    fuel: u32,
+    size: &mut Size,
+) -> Result<Items<ExprTree>, NoMemory> {
+    let mut list = Items::new(state.alloc);
+    let mut all = Size::NONE;
+    for tree in trees {
+        let mut inside = Size::NONE;
+        list.push(expr(state, tree, fuel, &mut inside)?)?;
+        all = all.beside(inside);
+    }
+    *size = size.then(all.enclosed());
+    Ok(list)
+}
+
+/// What stands for a tree that a function is not for, which no caller hands it, and for one that is too deep.
+fn hole(span: Span) -> ExprTree {
+    ExprTree::Hole { span }
+}
+
+fn literal(tree: &ExprTree) -> Result<ExprTree, NoMemory> {
+    match tree {
+        ExprTree::Integer { value, span } => Ok(ExprTree::Integer {
+            value: *value,
+            span: *span,
         }),
-        Err(_) => Err(NoMemory),
+        ExprTree::Str { value, span } => Ok(ExprTree::Str {
+            value: value.clone()?,
+            span: *span,
+        }),
+        ExprTree::Character { value, span } => Ok(ExprTree::Character {
+            value: *value,
+            span: *span,
+        }),
+        ExprTree::Boolean { value, span } => Ok(ExprTree::Boolean {
+            value: *value,
+            span: *span,
+        }),
+        _ => Ok(hole(tree.span())),
+    }
+}
+
+/// A name. The parentheses of an operator count as a level where they are not those of the name's own place.
+fn name(state: &Bracketing, tree: &ExprTree, size: &mut Size) -> Result<ExprTree, NoMemory> {
+    match tree {
+        ExprTree::Variable { name } => Ok(ExprTree::Variable {
+            name: mention(name)?,
+        }),
+        ExprTree::Constructor { name } => Ok(ExprTree::Constructor {
+            name: mention(name)?,
+        }),
+        ExprTree::Operator { name, span } => {
+            if name.span != *span {
+                *size = size.then(Size::NONE.enclosed());
+            }
+            let name = state.target(name, Space::Values)?;
+            Ok(ExprTree::Operator { name, span: *span })
+        }
+        _ => Ok(hole(tree.span())),
+    }
+}
+
+/// Operators, and names in backticks, each of which is an operator node. These associate to the left, so an operand lies behind
+/// those before it and under those behind it.
+#[cycle(exprs)]
+fn operators(
+    state: &mut Bracketing,
+    tree: &ExprTree,
+    fuel: u32,
+    size: &mut Size,
+) -> Result<ExprTree, NoMemory> {
+    match tree {
+        ExprTree::Chain { span, .. } => {
+            let reading = chain(state, tree, fuel)?;
+            state.bracketed(Space::Values, reading, *span, size)
+        }
+        ExprTree::Operation {
+            op,
+            left,
+            right,
+            span,
+        } => {
+            let left = boxed(state, left, fuel, size)?;
+            let right = boxed(state, right, fuel, size)?;
+            Ok(ExprTree::Operation {
+                op: mention(op)?,
+                left,
+                right,
+                span: *span,
+            })
+        }
+        ExprTree::Ticks { first, rest, span } => {
+            let nodes = levels(rest.len());
+            let first = boxed_under(state, first, nodes, fuel, size)?;
+            let rest = tick_steps(state, rest.as_slice(), nodes, fuel, size)?;
+            Ok(ExprTree::Ticks {
+                first,
+                rest,
+                span: *span,
+            })
+        }
+        _ => Ok(hole(tree.span())),
+    }
+}
+
+/// The operands of a chain, in which there is none any more, and the operators between them.
+#[cycle(exprs)]
+fn chain(
+    state: &mut Bracketing,
+    tree: &ExprTree,
+    fuel: u32,
+) -> Result<Reading<ExprTree>, NoMemory> {
+    let mut inside = Size::NONE;
+    match tree {
+        ExprTree::Chain { first, rest, .. } => {
+            let first = expr(state, first.get(), fuel, &mut inside)?;
+            let mut reading = Reading::start(state.alloc, first, inside);
+            chain_steps(state, rest.as_slice(), fuel, &mut reading)?;
+            Ok(reading)
+        }
+        _ => Ok(Reading::start(state.alloc, hole(tree.span()), inside)),
+    }
+}
+
+#[cycle(exprs)]
+fn chain_steps(
+    state: &mut Bracketing,
+    steps: &[ChainStep],
+    fuel: u32,
+    reading: &mut Reading<ExprTree>,
+) -> Result<(), NoMemory> {
+    for step in steps {
+        add_step(state, step, fuel, reading)?;
+    }
+    Ok(())
+}
+
+#[cycle(exprs)]
+fn add_step(
+    state: &mut Bracketing,
+    step: &ChainStep,
+    fuel: u32,
+    reading: &mut Reading<ExprTree>,
+) -> Result<(), NoMemory> {
+    let mut inside = Size::NONE;
+    let operand = expr(state, &step.operand, fuel, &mut inside)?;
+    match mention(&step.op) {
+        Ok(op) => reading.add(op, operand, inside),
+        Err(error) => Err(error),
+    }
+}
+
+#[cycle(exprs)]
+fn tick_steps(
+    state: &mut Bracketing,
+    steps: &[TickStep],
+    nodes: u32,
+    fuel: u32,
+    size: &mut Size,
+) -> Result<Items<TickStep>, NoMemory> {
+    let mut list = Items::new(state.alloc);
+    for step in steps {
+        let mut inside = Size::NONE;
+        list.push(tick_step(state, step, fuel, &mut inside)?)?;
+        *size = size.then(inside.under(nodes));
+    }
+    Ok(list)
+}
+
+#[cycle(exprs)]
+fn tick_step(
+    state: &mut Bracketing,
+    step: &TickStep,
+    fuel: u32,
+    size: &mut Size,
+) -> Result<TickStep, NoMemory> {
+    let name = mention(&step.name)?;
+    match expr(state, &step.operand, fuel, size) {
+        Ok(operand) => Ok(TickStep { name, operand }),
+        Err(error) => Err(error),
+    }
+}
+
+#[cycle(exprs)]
+fn applied(
+    state: &mut Bracketing,
+    tree: &ExprTree,
+    fuel: u32,
+    size: &mut Size,
+) -> Result<ExprTree, NoMemory> {
+    match tree {
+        ExprTree::Typed {
+            value,
+            x_type,
+            span,
+        } => {
+            let value = boxed(state, value, fuel, size)?;
+            let x_type = boxed_type(state, x_type, FUEL, size)?;
+            Ok(ExprTree::Typed {
+                value,
+                x_type,
+                span: *span,
+            })
+        }
+        ExprTree::Negate {
+            minus,
+            operand,
+            span,
+        } => Ok(ExprTree::Negate {
+            minus: *minus,
+            operand: boxed_under(state, operand, 1, fuel, size)?,
+            span: *span,
+        }),
+        ExprTree::Call {
+            function,
+            arguments,
+            span,
+        } => {
+            let written = ends_before(function.get().span(), *span);
+            let function = boxed(state, function, fuel, size)?;
+            let arguments = exprs(state, arguments.as_slice(), written, fuel, size)?;
+            Ok(ExprTree::Call {
+                function,
+                arguments,
+                span: *span,
+            })
+        }
+        _ => Ok(hole(tree.span())),
+    }
+}
+
+/// A form that begins with a backslash, `if` or `case`.
+#[cycle(exprs)]
+fn form(
+    state: &mut Bracketing,
+    tree: &ExprTree,
+    fuel: u32,
+    size: &mut Size,
+) -> Result<ExprTree, NoMemory> {
+    *size = size.then(Size::KEYWORD);
+    match tree {
+        ExprTree::Lambda {
+            binders,
+            body,
+            span,
+        } => {
+            let binders = binder_list(state, binders.as_slice(), size)?;
+            let body = boxed(state, body, fuel, size)?;
+            Ok(ExprTree::Lambda {
+                binders,
+                body,
+                span: *span,
+            })
+        }
+        ExprTree::If {
+            test,
+            then,
+            otherwise,
+            span,
+        } => {
+            let test = boxed(state, test, fuel, size)?;
+            let then = boxed(state, then, fuel, size)?;
+            let otherwise = boxed(state, otherwise, fuel, size)?;
+            Ok(ExprTree::If {
+                test,
+                then,
+                otherwise,
+                span: *span,
+            })
+        }
+        ExprTree::Case {
+            scrutinees,
+            alternatives: list,
+            span,
+        } => {
+            let scrutinees = exprs(state, scrutinees.as_slice(), false, fuel, size)?;
+            let alternatives = alternatives(state, list.as_slice(), fuel, size)?;
+            Ok(ExprTree::Case {
+                scrutinees,
+                alternatives,
+                span: *span,
+            })
+        }
+        _ => Ok(hole(tree.span())),
+    }
+}
+
+#[cycle(exprs)]
+fn block(
+    state: &mut Bracketing,
+    tree: &ExprTree,
+    fuel: u32,
+    size: &mut Size,
+) -> Result<ExprTree, NoMemory> {
+    match tree {
+        ExprTree::Let { binds, body, span } => {
+            *size = size.then(Size::KEYWORD);
+            let binds = bind_list(state, binds.as_slice(), fuel, size)?;
+            let body = boxed(state, body, fuel, size)?;
+            Ok(ExprTree::Let {
+                binds,
+                body,
+                span: *span,
+            })
+        }
+        ExprTree::Do {
+            statements: list,
+            span,
+        } => Ok(ExprTree::Do {
+            statements: statements(state, list.as_slice(), fuel, size)?,
+            span: *span,
+        }),
+        ExprTree::Ado {
+            statements: list,
+            result,
+            span,
+        } => {
+            let behind = levels(list.len());
+            let statements = statements(state, list.as_slice(), fuel, size)?;
+            let result = boxed_under(state, result, behind, fuel, size)?;
+            Ok(ExprTree::Ado {
+                statements,
+                result,
+                span: *span,
+            })
+        }
+        _ => Ok(hole(tree.span())),
+    }
+}
+
+#[cycle(exprs)]
+fn part(
+    state: &mut Bracketing,
+    tree: &ExprTree,
+    fuel: u32,
+    size: &mut Size,
+) -> Result<ExprTree, NoMemory> {
+    match tree {
+        ExprTree::Access {
+            subject,
+            labels: path,
+            span,
+        } => {
+            let subject = boxed(state, subject, fuel, size)?;
+            let labels = labels(state.alloc, path.as_slice())?;
+            Ok(ExprTree::Access {
+                subject,
+                labels,
+                span: *span,
+            })
+        }
+        ExprTree::Update {
+            subject,
+            updates,
+            span,
+        } => {
+            let subject = boxed(state, subject, fuel, size)?;
+            let updates = update_list(state, updates.as_slice(), fuel, size)?;
+            Ok(ExprTree::Update {
+                subject,
+                updates,
+                span: *span,
+            })
+        }
+        ExprTree::Paren { inner, span } => {
+            let mut inside = Size::NONE;
+            let inner = boxed(state, inner, fuel, &mut inside)?;
+            *size = size.then(inside.enclosed());
+            Ok(ExprTree::Paren { inner, span: *span })
+        }
+        _ => Ok(hole(tree.span())),
+    }
+}
+
+#[cycle(exprs)]
+fn update_list(
+    state: &mut Bracketing,
+    updates: &[Update],
+    fuel: u32,
+    size: &mut Size,
+) -> Result<Items<Update>, NoMemory> {
+    let mut list = Items::new(state.alloc);
+    let mut all = Size::NONE;
+    for next in updates {
+        let mut inside = Size::NONE;
+        list.push(update(state, next, fuel, &mut inside)?)?;
+        all = all.beside(inside);
+    }
+    *size = size.then(all.enclosed());
+    Ok(list)
+}
+
+#[cycle(exprs)]
+fn update(
+    state: &mut Bracketing,
+    update: &Update,
+    fuel: u32,
+    size: &mut Size,
+) -> Result<Update, NoMemory> {
+    let label = label(&update.label)?;
+    match boxed(state, &update.value, fuel, size) {
+        Ok(value) => Ok(Update { label, value }),
+        Err(error) => Err(error),
+    }
+}
+
+#[cycle(exprs)]
+fn brackets(
+    state: &mut Bracketing,
+    tree: &ExprTree,
+    fuel: u32,
+    size: &mut Size,
+) -> Result<ExprTree, NoMemory> {
+    match tree {
+        ExprTree::Array { items, span } => Ok(ExprTree::Array {
+            items: beside(state, items.as_slice(), fuel, size)?,
+            span: *span,
+        }),
+        ExprTree::XRecord { fields, span } => Ok(ExprTree::XRecord {
+            fields: field_list(state, fields.as_slice(), fuel, size)?,
+            span: *span,
+        }),
+        _ => Ok(hole(tree.span())),
+    }
+}
+
+#[cycle(exprs)]
+fn field_list(
+    state: &mut Bracketing,
+    fields: &[Field],
+    fuel: u32,
+    size: &mut Size,
+) -> Result<Items<Field>, NoMemory> {
+    let mut list = Items::new(state.alloc);
+    let mut all = Size::NONE;
+    for next in fields {
+        let mut inside = Size::NONE;
+        list.push(field(state, next, fuel, &mut inside)?)?;
+        all = all.beside(inside);
+    }
+    *size = size.then(all.enclosed());
+    Ok(list)
+}
+
+#[cycle(exprs)]
+fn field(
+    state: &mut Bracketing,
+    field: &Field,
+    fuel: u32,
+    size: &mut Size,
+) -> Result<Field, NoMemory> {
+    let label = label(&field.label)?;
+    match field_value(state, field, fuel, size) {
+        Ok(value) => Ok(Field { label, value }),
+        Err(error) => Err(error),
+    }
+}
+
+/// The expression behind a label, if one is written.
+#[cycle(exprs)]
+fn field_value(
+    state: &mut Bracketing,
+    field: &Field,
+    fuel: u32,
+    size: &mut Size,
+) -> Result<Option<Boxed<ExprTree>>, NoMemory> {
+    match &field.value {
+        Some(value) => Ok(Some(boxed(state, value, fuel, size)?)),
+        None => Ok(None),
     }
 }
 

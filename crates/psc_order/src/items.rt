@@ -1,16 +1,16 @@
 //! A module without chains, one declaration after the other.
-//!
-//! Each function has one step that may fail, so that its proof has few values to drop.
 
 ghost use Rattle.std.specs.Prelude.{◌≡◌, [], option_map, IfOk};
 ghost use Rattle.psc_error.specs.declared.code.Code.TheVariants.{TooDeep};
 ghost use Rattle.psc_order.specs.Told as told;
 
-use crate::state::{Bracketing, FUEL, Refusal, in_order};
+use crate::binds::clause;
+use crate::copies::{deps, fixity, kind, mention, type_vars, upper, written_ident};
+use crate::state::{Bracketing, FUEL, Refusal};
 use crate::types::{constraint_list, kind_size, sig, type_list, vars_size, x_type};
 use psc_ast::{
-    ClassDecl, Clause, Ctor, DataDecl, Decl, Fixities, InstanceDecl, Module, Sig, SynonymDecl,
-    TypeTree,
+    ClassDecl, Clause, Ctor, DataDecl, Decl, Fixities, InstanceDecl, KindOf, KindTree, Module, Sig,
+    SynonymDecl, TypeVar, UpperAt,
 };
 use psc_chain::Size;
 use psc_error::{Code, PsError};
@@ -47,7 +47,7 @@ fn in_module(state: Bracketing, module: Module) -> Result<Result<Module, PsError
         decls,
         span,
     } = module;
-    match declarations(&mut state, &name.name, decls) {
+    match declarations(&mut state, &name.name, decls.as_slice()) {
         Ok(Ok(decls)) => Ok(Ok(Module {
             name,
             header,
@@ -66,9 +66,8 @@ fn in_module(state: Bracketing, module: Module) -> Result<Result<Module, PsError
 fn declarations(
     state: &mut Bracketing,
     module: &ModuleName,
-    decls: Items<Decl>,
+    decls: &[Decl],
 ) -> Result<Result<Items<Decl>, PsError>, NoMemory> {
-    let decls = in_order(state.alloc, decls)?;
     let mut done = Items::new(state.alloc);
     for decl in decls {
         if let Some(wrong) = add_decl(state, module, decl, &mut done)? {
@@ -82,16 +81,19 @@ fn declarations(
 fn add_decl(
     state: &mut Bracketing,
     module: &ModuleName,
-    decl: Decl,
+    decl: &Decl,
     done: &mut Items<Decl>,
 ) -> Result<Option<PsError>, NoMemory> {
-    let alloc = state.alloc;
-    let at = decl.span();
     let mut size = Size::NONE;
-    let decl = decl_of(state, decl, &mut size)?;
-    done.push(decl)?;
+    done.push(decl_of(state, decl, &mut size)?)?;
     let is_deep = state.too_deep || size.is_too_deep();
-    wrong_with(alloc, module, state.refusal.take(), is_deep, at)
+    wrong_with(
+        state.alloc,
+        module,
+        state.refusal.take(),
+        is_deep,
+        decl.span(),
+    )
 }
 
 /// What is wrong with a declaration at a place: its first chain without a right tree, or that it is too deep.
@@ -147,63 +149,84 @@ fn too_deep(alloc: Global, module: &ModuleName, span: Span) -> Result<PsError, N
     })
 }
 
-fn decl_of(state: &mut Bracketing, decl: Decl, size: &mut Size) -> Result<Decl, NoMemory> {
+/// A declaration with its chains as trees.
+fn decl_of(state: &mut Bracketing, decl: &Decl, size: &mut Size) -> Result<Decl, NoMemory> {
     match decl {
-        Decl::XData(_) | Decl::Newtype(_) | Decl::Synonym(_) => type_decl(state, decl, size),
-        Decl::KindSig { .. } | Decl::ForeignData { .. } => {
-            *size = size.then(written_kind(&decl));
-            Ok(decl)
+        Decl::XData(data) => Ok(Decl::XData(data_of(state, data, size)?)),
+        Decl::Newtype(data) => Ok(Decl::Newtype(data_of(state, data, size)?)),
+        Decl::Synonym(synonym) => Ok(Decl::Synonym(synonym_of(state, synonym, size)?)),
+        Decl::KindSig {
+            of,
+            name,
+            kind,
+            span,
+        } => {
+            *size = size.then(kind_size(kind));
+            kind_sig(state.alloc, *of, name, kind, *span)
         }
-        Decl::ForeignValue { sig: one, span } => match sig(state, one, size) {
-            Ok(sig) => Ok(Decl::ForeignValue { sig, span }),
-            Err(error) => Err(error),
-        },
-        Decl::Class(_) | Decl::Instance(_) => class_decl(state, decl, size),
-        Decl::Fixity(_) => Ok(decl),
-        Decl::Sig(one) => Ok(Decl::Sig(sig(state, one, size)?)),
-        Decl::Clause(one) => Ok(Decl::Clause(state.clause(one, FUEL, size)?)),
+        Decl::ForeignData { name, kind, span } => {
+            *size = size.then(kind_size(kind));
+            foreign_data(state.alloc, name, kind, *span)
+        }
+        Decl::ForeignValue { sig: written, span } => Ok(Decl::ForeignValue {
+            sig: sig(state, written, size)?,
+            span: *span,
+        }),
+        Decl::Class(class) => Ok(Decl::Class(class_of(state, class, size)?)),
+        Decl::Instance(instance) => Ok(Decl::Instance(instance_of(state, instance, size)?)),
+        Decl::Fixity(written) => Ok(Decl::Fixity(fixity(written)?)),
+        Decl::Sig(written) => Ok(Decl::Sig(sig(state, written, size)?)),
+        Decl::Clause(written) => Ok(Decl::Clause(clause(state, written, FUEL, size)?)),
     }
 }
 
-/// The size of the kind that a declaration gives.
-fn written_kind(decl: &Decl) -> Size {
-    match decl {
-        Decl::KindSig { kind, .. } | Decl::ForeignData { kind, .. } => kind_size(kind),
-        _ => Size::NONE,
+fn kind_sig(
+    alloc: Global,
+    of: KindOf,
+    name: &UpperAt,
+    written: &KindTree,
+    span: Span,
+) -> Result<Decl, NoMemory> {
+    let name = upper(name)?;
+    match kind(alloc, written) {
+        Ok(kind) => Ok(Decl::KindSig {
+            of,
+            name,
+            kind,
+            span,
+        }),
+        Err(error) => Err(error),
     }
 }
 
-fn type_decl(state: &mut Bracketing, decl: Decl, size: &mut Size) -> Result<Decl, NoMemory> {
-    match decl {
-        Decl::XData(one) => Ok(Decl::XData(data_of(state, one, size)?)),
-        Decl::Newtype(one) => Ok(Decl::Newtype(data_of(state, one, size)?)),
-        Decl::Synonym(one) => Ok(Decl::Synonym(synonym_of(state, one, size)?)),
-        other => Ok(other),
+fn foreign_data(
+    alloc: Global,
+    name: &UpperAt,
+    written: &KindTree,
+    span: Span,
+) -> Result<Decl, NoMemory> {
+    let name = upper(name)?;
+    match kind(alloc, written) {
+        Ok(kind) => Ok(Decl::ForeignData { name, kind, span }),
+        Err(error) => Err(error),
     }
 }
 
-fn class_decl(state: &mut Bracketing, decl: Decl, size: &mut Size) -> Result<Decl, NoMemory> {
-    match decl {
-        Decl::Class(one) => Ok(Decl::Class(class_of(state, one, size)?)),
-        Decl::Instance(one) => Ok(Decl::Instance(instance_of(state, one, size)?)),
-        other => Ok(other),
-    }
+/// The variables of a head.
+fn head_vars(alloc: Global, vars: &[TypeVar], size: &mut Size) -> Result<Items<TypeVar>, NoMemory> {
+    vars_size(vars, size);
+    type_vars(alloc, vars)
 }
 
-fn data_of(state: &mut Bracketing, data: DataDecl, size: &mut Size) -> Result<DataDecl, NoMemory> {
-    let DataDecl {
-        name,
-        vars,
-        ctors,
-        span,
-    } = data;
-    vars_size(vars.as_slice(), size);
-    match ctor_list(state, ctors, size) {
+fn data_of(state: &mut Bracketing, data: &DataDecl, size: &mut Size) -> Result<DataDecl, NoMemory> {
+    let name = upper(&data.name)?;
+    let vars = head_vars(state.alloc, data.vars.as_slice(), size)?;
+    match ctor_list(state, data.ctors.as_slice(), size) {
         Ok(ctors) => Ok(DataDecl {
             name,
             vars,
             ctors,
-            span,
+            span: data.span,
         }),
         Err(error) => Err(error),
     }
@@ -211,54 +234,41 @@ fn data_of(state: &mut Bracketing, data: DataDecl, size: &mut Size) -> Result<Da
 
 fn ctor_list(
     state: &mut Bracketing,
-    ctors: Items<Ctor>,
+    ctors: &[Ctor],
     size: &mut Size,
 ) -> Result<Items<Ctor>, NoMemory> {
-    let ctors = in_order(state.alloc, ctors)?;
-    let mut done = Items::new(state.alloc);
+    let mut list = Items::new(state.alloc);
     for ctor in ctors {
-        add_ctor(state, ctor, &mut done, size)?;
+        list.push(ctor_of(state, ctor, size)?)?;
     }
-    Ok(done)
+    Ok(list)
 }
 
-fn add_ctor(
-    state: &mut Bracketing,
-    ctor: Ctor,
-    done: &mut Items<Ctor>,
-    size: &mut Size,
-) -> Result<(), NoMemory> {
-    let ctor = ctor_of(state, ctor, size)?;
-    done.push(ctor)?;
-    Ok(())
-}
-
-fn ctor_of(state: &mut Bracketing, ctor: Ctor, size: &mut Size) -> Result<Ctor, NoMemory> {
-    let Ctor { name, fields, span } = ctor;
-    match type_list(state, fields, size) {
-        Ok(fields) => Ok(Ctor { name, fields, span }),
+fn ctor_of(state: &mut Bracketing, ctor: &Ctor, size: &mut Size) -> Result<Ctor, NoMemory> {
+    let name = upper(&ctor.name)?;
+    match type_list(state, ctor.fields.as_slice(), size) {
+        Ok(fields) => Ok(Ctor {
+            name,
+            fields,
+            span: ctor.span,
+        }),
         Err(error) => Err(error),
     }
 }
 
 fn synonym_of(
     state: &mut Bracketing,
-    synonym: SynonymDecl,
+    synonym: &SynonymDecl,
     size: &mut Size,
 ) -> Result<SynonymDecl, NoMemory> {
-    let SynonymDecl {
-        name,
-        vars,
-        body,
-        span,
-    } = synonym;
-    vars_size(vars.as_slice(), size);
-    match x_type(state, body, FUEL, size) {
+    let name = upper(&synonym.name)?;
+    let vars = head_vars(state.alloc, synonym.vars.as_slice(), size)?;
+    match x_type(state, &synonym.body, FUEL, size) {
         Ok(body) => Ok(SynonymDecl {
             name,
             vars,
             body,
-            span,
+            span: synonym.span,
         }),
         Err(error) => Err(error),
     }
@@ -266,172 +276,79 @@ fn synonym_of(
 
 fn class_of(
     state: &mut Bracketing,
-    class: ClassDecl,
+    class: &ClassDecl,
     size: &mut Size,
 ) -> Result<ClassDecl, NoMemory> {
-    let ClassDecl {
-        supers,
-        name,
-        vars,
-        deps,
-        members,
-        span,
-    } = class;
-    match constraint_list(state, supers, FUEL, size) {
-        Ok(supers) => {
-            vars_size(vars.as_slice(), size);
-            let head = ClassDecl {
-                supers,
-                name,
-                vars,
-                deps,
-                members: Items::new(state.alloc),
-                span,
-            };
-            class_members(state, head, members, size)
-        }
-        Err(error) => Err(error),
-    }
-}
-
-/// A class whose head is done, with its members.
-fn class_members(
-    state: &mut Bracketing,
-    head: ClassDecl,
-    members: Items<Sig>,
-    size: &mut Size,
-) -> Result<ClassDecl, NoMemory> {
-    match sig_list(state, members, size) {
-        Ok(members) => Ok(ClassDecl { members, ..head }),
-        Err(error) => Err(error),
-    }
-}
-
-fn sig_list(
-    state: &mut Bracketing,
-    members: Items<Sig>,
-    size: &mut Size,
-) -> Result<Items<Sig>, NoMemory> {
-    let members = in_order(state.alloc, members)?;
-    let mut done = Items::new(state.alloc);
-    let mut all = Size::NONE;
-    for member in members {
-        let mut inside = Size::NONE;
-        add_sig(state, member, &mut done, &mut inside)?;
-        all = all.beside(inside);
-    }
-    *size = size.then(all.enclosed());
-    Ok(done)
-}
-
-fn add_sig(
-    state: &mut Bracketing,
-    member: Sig,
-    done: &mut Items<Sig>,
-    size: &mut Size,
-) -> Result<(), NoMemory> {
-    let member = sig(state, member, size)?;
-    done.push(member)?;
-    Ok(())
-}
-
-fn instance_of(
-    state: &mut Bracketing,
-    instance: InstanceDecl,
-    size: &mut Size,
-) -> Result<InstanceDecl, NoMemory> {
-    let InstanceDecl {
-        goes_on,
-        name,
-        context,
-        class,
-        arguments,
-        members,
-        span,
-    } = instance;
-    match constraint_list(state, context, FUEL, size) {
-        Ok(context) => {
-            let head = InstanceDecl {
-                goes_on,
-                name,
-                context,
-                class,
-                arguments: Items::new(state.alloc),
-                members,
-                span,
-            };
-            instance_arguments(state, head, arguments, size)
-        }
-        Err(error) => Err(error),
-    }
-}
-
-/// An instance whose context is done, with its arguments.
-fn instance_arguments(
-    state: &mut Bracketing,
-    head: InstanceDecl,
-    arguments: Items<TypeTree>,
-    size: &mut Size,
-) -> Result<InstanceDecl, NoMemory> {
-    match type_list(state, arguments, size) {
-        Ok(arguments) => instance_members(state, InstanceDecl { arguments, ..head }, size),
-        Err(error) => Err(error),
-    }
-}
-
-/// An instance whose head is done.
-fn instance_members(
-    state: &mut Bracketing,
-    instance: InstanceDecl,
-    size: &mut Size,
-) -> Result<InstanceDecl, NoMemory> {
-    let InstanceDecl {
-        goes_on,
-        name,
-        context,
-        class,
-        arguments,
-        members,
-        span,
-    } = instance;
-    match clause_list(state, members, size) {
-        Ok(members) => Ok(InstanceDecl {
-            goes_on,
+    let supers = constraint_list(state, class.supers.as_slice(), FUEL, size)?;
+    let name = upper(&class.name)?;
+    let vars = head_vars(state.alloc, class.vars.as_slice(), size)?;
+    let deps = deps(state.alloc, class.deps.as_slice())?;
+    match sig_list(state, class.members.as_slice(), size) {
+        Ok(members) => Ok(ClassDecl {
+            supers,
             name,
-            context,
-            class,
-            arguments,
+            vars,
+            deps,
             members,
-            span,
+            span: class.span,
         }),
         Err(error) => Err(error),
     }
 }
 
-fn clause_list(
+/// The members of a class, which are one block.
+fn sig_list(
     state: &mut Bracketing,
-    members: Items<Clause>,
+    members: &[Sig],
     size: &mut Size,
-) -> Result<Items<Clause>, NoMemory> {
-    let members = in_order(state.alloc, members)?;
-    let mut done = Items::new(state.alloc);
+) -> Result<Items<Sig>, NoMemory> {
+    let mut list = Items::new(state.alloc);
     let mut all = Size::NONE;
     for member in members {
         let mut inside = Size::NONE;
-        add_clause(state, member, &mut done, &mut inside)?;
+        list.push(sig(state, member, &mut inside)?)?;
         all = all.beside(inside);
     }
     *size = size.then(all.enclosed());
-    Ok(done)
+    Ok(list)
 }
 
-fn add_clause(
+fn instance_of(
     state: &mut Bracketing,
-    member: Clause,
-    done: &mut Items<Clause>,
+    instance: &InstanceDecl,
     size: &mut Size,
-) -> Result<(), NoMemory> {
-    let member = state.clause(member, FUEL, size)?;
-    done.push(member)?;
-    Ok(())
+) -> Result<InstanceDecl, NoMemory> {
+    let name = written_ident(&instance.name)?;
+    let context = constraint_list(state, instance.context.as_slice(), FUEL, size)?;
+    let class = mention(&instance.class)?;
+    let arguments = type_list(state, instance.arguments.as_slice(), size)?;
+    match clause_list(state, instance.members.as_slice(), size) {
+        Ok(members) => Ok(InstanceDecl {
+            goes_on: instance.goes_on,
+            name,
+            context,
+            class,
+            arguments,
+            members,
+            span: instance.span,
+        }),
+        Err(error) => Err(error),
+    }
+}
+
+/// The members of an instance, which are one block.
+fn clause_list(
+    state: &mut Bracketing,
+    members: &[Clause],
+    size: &mut Size,
+) -> Result<Items<Clause>, NoMemory> {
+    let mut list = Items::new(state.alloc);
+    let mut all = Size::NONE;
+    for member in members {
+        let mut inside = Size::NONE;
+        list.push(clause(state, member, FUEL, &mut inside)?)?;
+        all = all.beside(inside);
+    }
+    *size = size.then(all.enclosed());
+    Ok(list)
 }

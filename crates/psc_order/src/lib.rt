@@ -7,9 +7,8 @@
 
 mod binders;
 mod binds;
-mod chains;
+mod copies;
 mod exprs;
-mod forms;
 mod items;
 mod state;
 mod types;

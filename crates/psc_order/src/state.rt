@@ -1,6 +1,6 @@
 //! What the bracketing of a module knows and finds.
 
-ghost use Rattle.std.specs.Prelude.{◌≡◌, ◌+◌, [], ◌∷◌, length, map, reverse, IfOk};
+ghost use Rattle.std.specs.Prelude.{◌≡◌, ◌+◌, [], ◌∷◌, length, map, IfOk};
 ghost use Rattle.std.specs.Option.{option_copied};
 ghost use Rattle.psc_chain.specs.Built.{IsBracketed};
 ghost use Rattle.psc_error.specs.declared.code.Code.TheVariants.{NonAssociativeError, MixedAssociativityError};
@@ -11,7 +11,6 @@ use psc_brackets::{Clash, Operator};
 use psc_chain::{Bracketed, Chain, Joins, Operand, Size, tree_of};
 use psc_error::Code;
 use psc_text::{NoMemory, Qualified, Span, Text};
-use sqlite_items::Items;
 use std::alloc::Global;
 use std::collections::{BTreeMap, VecDeque};
 
@@ -381,25 +380,4 @@ fn pieces_of<T: Drop>(alloc: Global, reading: Reading<T>) -> Result<Pieces<T>, N
         operands.push_back(operand)?;
     }
     Ok(Pieces { operands, mentions })
-}
-
-/// The elements of a list, in their order.
-pub(crate) fn in_order<T: Drop>(alloc: Global, items: Items<T>) -> Result<Vec<T>, NoMemory>
-    ensures { IfOk result (λ list. list.items ≡ items) }
-{
-    let mut list = backwards(alloc, items)?;
-    list.reverse();
-    Ok(list)
-}
-
-/// The elements of a list, the last one first.
-fn backwards<T: Drop>(alloc: Global, items: Items<T>) -> Result<Vec<T>, NoMemory>
-    ensures { IfOk result (λ list. list.items ≡ reverse items) }
-{
-    let mut items = items;
-    let mut list = Vec::new(alloc);
-    while let Some(item) = items.pop() {
-        list.push(item)?;
-    }
-    Ok(list)
 }

@@ -1,11 +1,8 @@
 //! Types without chains.
-//!
-//! Each function has one step that may fail, so that its proof has few values to drop.
 
-use crate::state::{Bracketing, FUEL, Reading, Space, in_order};
-use psc_ast::{
-    Constr, KindTree, Mention, RowField, RowTree, Sig, TypePrefix, TypeStep, TypeTree, TypeVar,
-};
+use crate::copies::{ident, label, mention, type_vars};
+use crate::state::{Bracketing, FUEL, Reading, Space};
+use psc_ast::{Constr, KindTree, RowField, RowTree, Sig, TypePrefix, TypeStep, TypeTree, TypeVar};
 use psc_chain::{Size, levels};
 use psc_text::{NoMemory, Span};
 use sqlite_items::{Boxed, Items};
@@ -14,172 +11,167 @@ use sqlite_items::{Boxed, Items};
 #[cycle(types)]
 pub(crate) fn x_type(
     state: &mut Bracketing,
-    tree: TypeTree,
+    tree: &TypeTree,
     fuel: u32,
     size: &mut Size,
 ) -> Result<TypeTree, NoMemory> {
     if fuel == 0 {
         state.too_deep = true;
-        return Ok(tree);
+        return Ok(arrow(tree.span()));
     }
     let fuel = fuel - 1;
     match tree {
-        TypeTree::Prefixed {
-            prefixes,
-            result: body,
-            span,
-        } => prefixed(state, prefixes, body, span, fuel, size),
-        TypeTree::Chain { first, rest, span } => chain(state, first, rest, span, fuel, size),
+        TypeTree::Prefixed { .. } => prefixed(state, tree, fuel, size),
+        TypeTree::Chain { .. } | TypeTree::Operation { .. } => operators(state, tree, fuel, size),
+        TypeTree::Application { .. } | TypeTree::Paren { .. } => applied(state, tree, fuel, size),
+        TypeTree::Row { .. } | TypeTree::XRecord { .. } => brackets(state, tree, fuel, size),
+        TypeTree::Function { span } => {
+            *size = size.then(Size::NONE.enclosed());
+            Ok(arrow(*span))
+        }
+        TypeTree::Variable { .. } | TypeTree::Constructor { .. } | TypeTree::Str { .. } => leaf(
+            tree,
+        ),
+    }
+}
+
+/// What stands for a tree that a function is not for, which no caller hands it, and for one that is too deep.
+fn arrow(span: Span) -> TypeTree {
+    TypeTree::Function { span }
+}
+
+fn leaf(tree: &TypeTree) -> Result<TypeTree, NoMemory> {
+    match tree {
+        TypeTree::Variable { name } => Ok(TypeTree::Variable { name: ident(name)? }),
+        TypeTree::Constructor { name } => Ok(TypeTree::Constructor {
+            name: mention(name)?,
+        }),
+        TypeTree::Str { value, span } => Ok(TypeTree::Str {
+            value: value.clone()?,
+            span: *span,
+        }),
+        _ => Ok(arrow(tree.span())),
+    }
+}
+
+#[cycle(types)]
+pub(crate) fn boxed(
+    state: &mut Bracketing,
+    tree: &Boxed<TypeTree>,
+    fuel: u32,
+    size: &mut Size,
+) -> Result<Boxed<TypeTree>, NoMemory> {
+    let alloc = state.alloc;
+    let tree = x_type(state, tree.get(), fuel, size)?;
+    Ok(Boxed::new(alloc, tree)?)
+}
+
+#[cycle(types)]
+fn operators(
+    state: &mut Bracketing,
+    tree: &TypeTree,
+    fuel: u32,
+    size: &mut Size,
+) -> Result<TypeTree, NoMemory> {
+    match tree {
+        TypeTree::Chain { span, .. } => {
+            let reading = chain(state, tree, fuel)?;
+            state.bracketed(Space::Types, reading, *span, size)
+        }
         TypeTree::Operation {
             op,
             left,
             right,
             span,
-        } => operation(state, op, left, right, span, fuel, size),
+        } => {
+            let left = boxed(state, left, fuel, size)?;
+            let right = boxed(state, right, fuel, size)?;
+            Ok(TypeTree::Operation {
+                op: mention(op)?,
+                left,
+                right,
+                span: *span,
+            })
+        }
+        _ => Ok(arrow(tree.span())),
+    }
+}
+
+/// The operands of a chain, in which there is none any more, and the operators between them.
+#[cycle(types)]
+fn chain(
+    state: &mut Bracketing,
+    tree: &TypeTree,
+    fuel: u32,
+) -> Result<Reading<TypeTree>, NoMemory> {
+    let mut inside = Size::NONE;
+    match tree {
+        TypeTree::Chain { first, rest, .. } => {
+            let first = x_type(state, first.get(), fuel, &mut inside)?;
+            let mut reading = Reading::start(state.alloc, first, inside);
+            steps(state, rest.as_slice(), fuel, &mut reading)?;
+            Ok(reading)
+        }
+        _ => Ok(Reading::start(state.alloc, arrow(tree.span()), inside)),
+    }
+}
+
+#[cycle(types)]
+fn steps(
+    state: &mut Bracketing,
+    steps: &[TypeStep],
+    fuel: u32,
+    reading: &mut Reading<TypeTree>,
+) -> Result<(), NoMemory> {
+    for step in steps {
+        add_step(state, step, fuel, reading)?;
+    }
+    Ok(())
+}
+
+#[cycle(types)]
+fn add_step(
+    state: &mut Bracketing,
+    step: &TypeStep,
+    fuel: u32,
+    reading: &mut Reading<TypeTree>,
+) -> Result<(), NoMemory> {
+    let mut inside = Size::NONE;
+    let operand = x_type(state, &step.operand, fuel, &mut inside)?;
+    match mention(&step.op) {
+        Ok(op) => reading.add(op, operand, inside),
+        Err(error) => Err(error),
+    }
+}
+
+#[cycle(types)]
+fn applied(
+    state: &mut Bracketing,
+    tree: &TypeTree,
+    fuel: u32,
+    size: &mut Size,
+) -> Result<TypeTree, NoMemory> {
+    match tree {
         TypeTree::Application {
             function,
             arguments,
             span,
-        } => application(state, function, arguments, span, fuel, size),
-        TypeTree::Paren { inner, span } => paren(state, inner, span, fuel, size),
-        TypeTree::Row { row: fields, span } => open_row(state, fields, span, fuel, size),
-        TypeTree::XRecord { row: fields, span } => record(state, fields, span, fuel, size),
-        TypeTree::Function { .. } => {
-            *size = size.then(Size::NONE.enclosed());
-            Ok(tree)
+        } => {
+            let function = boxed(state, function, fuel, size)?;
+            let arguments = type_arguments(state, arguments.as_slice(), fuel, size)?;
+            Ok(TypeTree::Application {
+                function,
+                arguments,
+                span: *span,
+            })
         }
-        TypeTree::Variable { .. } | TypeTree::Constructor { .. } | TypeTree::Str { .. } => Ok(tree),
-    }
-}
-
-#[cycle(types)]
-fn boxed(
-    state: &mut Bracketing,
-    tree: Boxed<TypeTree>,
-    fuel: u32,
-    size: &mut Size,
-) -> Result<Boxed<TypeTree>, NoMemory> {
-    let alloc = state.alloc;
-    let tree = x_type(state, tree.into_inner(), fuel, size)?;
-    Ok(Boxed::new(alloc, tree)?)
-}
-
-#[cycle(types)]
-fn operation(
-    state: &mut Bracketing,
-    op: Mention,
-    left: Boxed<TypeTree>,
-    right: Boxed<TypeTree>,
-    span: Span,
-    fuel: u32,
-    size: &mut Size,
-) -> Result<TypeTree, NoMemory> {
-    match boxed(state, left, fuel, size) {
-        Ok(left) => right_of(state, op, left, right, span, fuel, size),
-        Err(error) => Err(error),
-    }
-}
-
-/// An operation whose left operand is done.
-#[cycle(types)]
-fn right_of(
-    state: &mut Bracketing,
-    op: Mention,
-    left: Boxed<TypeTree>,
-    right: Boxed<TypeTree>,
-    span: Span,
-    fuel: u32,
-    size: &mut Size,
-) -> Result<TypeTree, NoMemory> {
-    match boxed(state, right, fuel, size) {
-        Ok(right) => Ok(TypeTree::Operation {
-            op,
-            left,
-            right,
-            span,
-        }),
-        Err(error) => Err(error),
-    }
-}
-
-#[cycle(types)]
-fn application(
-    state: &mut Bracketing,
-    function: Boxed<TypeTree>,
-    arguments: Items<TypeTree>,
-    span: Span,
-    fuel: u32,
-    size: &mut Size,
-) -> Result<TypeTree, NoMemory> {
-    match boxed(state, function, fuel, size) {
-        Ok(function) => applied(state, function, arguments, span, fuel, size),
-        Err(error) => Err(error),
-    }
-}
-
-/// An application whose function is done.
-#[cycle(types)]
-fn applied(
-    state: &mut Bracketing,
-    function: Boxed<TypeTree>,
-    arguments: Items<TypeTree>,
-    span: Span,
-    fuel: u32,
-    size: &mut Size,
-) -> Result<TypeTree, NoMemory> {
-    match type_arguments(state, arguments, fuel, size) {
-        Ok(arguments) => Ok(TypeTree::Application {
-            function,
-            arguments,
-            span,
-        }),
-        Err(error) => Err(error),
-    }
-}
-
-#[cycle(types)]
-fn paren(
-    state: &mut Bracketing,
-    inner: Boxed<TypeTree>,
-    span: Span,
-    fuel: u32,
-    size: &mut Size,
-) -> Result<TypeTree, NoMemory> {
-    let mut inside = Size::NONE;
-    match boxed(state, inner, fuel, &mut inside) {
-        Ok(inner) => {
+        TypeTree::Paren { inner, span } => {
+            let mut inside = Size::NONE;
+            let inner = boxed(state, inner, fuel, &mut inside)?;
             *size = size.then(inside.enclosed());
-            Ok(TypeTree::Paren { inner, span })
+            Ok(TypeTree::Paren { inner, span: *span })
         }
-        Err(error) => Err(error),
-    }
-}
-
-#[cycle(types)]
-fn open_row(
-    state: &mut Bracketing,
-    fields: RowTree,
-    span: Span,
-    fuel: u32,
-    size: &mut Size,
-) -> Result<TypeTree, NoMemory> {
-    match row(state, fields, fuel, size) {
-        Ok(row) => Ok(TypeTree::Row { row, span }),
-        Err(error) => Err(error),
-    }
-}
-
-#[cycle(types)]
-fn record(
-    state: &mut Bracketing,
-    fields: RowTree,
-    span: Span,
-    fuel: u32,
-    size: &mut Size,
-) -> Result<TypeTree, NoMemory> {
-    match row(state, fields, fuel, size) {
-        Ok(row) => Ok(TypeTree::XRecord { row, span }),
-        Err(error) => Err(error),
+        _ => Ok(arrow(tree.span())),
     }
 }
 
@@ -187,168 +179,66 @@ fn record(
 #[cycle(types)]
 fn type_arguments(
     state: &mut Bracketing,
-    arguments: Items<TypeTree>,
+    trees: &[TypeTree],
     fuel: u32,
     size: &mut Size,
 ) -> Result<Items<TypeTree>, NoMemory> {
-    let arguments = in_order(state.alloc, arguments)?;
-    let mut done = Items::new(state.alloc);
-    for argument in arguments {
-        add_argument(state, argument, fuel, &mut done, size)?;
+    let mut list = Items::new(state.alloc);
+    for tree in trees {
+        let mut inside = Size::NONE;
+        list.push(x_type(state, tree, fuel, &mut inside)?)?;
+        *size = size.then(inside.under(levels(list.len())));
     }
-    Ok(done)
-}
-
-#[cycle(types)]
-fn add_argument(
-    state: &mut Bracketing,
-    argument: TypeTree,
-    fuel: u32,
-    done: &mut Items<TypeTree>,
-    size: &mut Size,
-) -> Result<(), NoMemory> {
-    let mut inside = Size::NONE;
-    let argument = x_type(state, argument, fuel, &mut inside)?;
-    done.push(argument)?;
-    *size = size.then(inside.under(levels(done.len())));
-    Ok(())
-}
-
-#[cycle(types)]
-fn chain(
-    state: &mut Bracketing,
-    first: Boxed<TypeTree>,
-    rest: Items<TypeStep>,
-    span: Span,
-    fuel: u32,
-    size: &mut Size,
-) -> Result<TypeTree, NoMemory> {
-    match chain_of(state, first, rest, fuel) {
-        Ok(reading) => state.bracketed(Space::Types, reading, span, size),
-        Err(error) => Err(error),
-    }
-}
-
-/// The operands of a chain, in which there is none any more, and the operators between them.
-#[cycle(types)]
-fn chain_of(
-    state: &mut Bracketing,
-    first: Boxed<TypeTree>,
-    rest: Items<TypeStep>,
-    fuel: u32,
-) -> Result<Reading<TypeTree>, NoMemory> {
-    let mut inside = Size::NONE;
-    match x_type(state, first.into_inner(), fuel, &mut inside) {
-        Ok(first) => {
-            let reading = Reading::start(state.alloc, first, inside);
-            chain_behind(state, reading, rest, fuel)
-        }
-        Err(error) => Err(error),
-    }
-}
-
-/// A chain whose operands before some steps are done.
-#[cycle(types)]
-fn chain_behind(
-    state: &mut Bracketing,
-    reading: Reading<TypeTree>,
-    rest: Items<TypeStep>,
-    fuel: u32,
-) -> Result<Reading<TypeTree>, NoMemory> {
-    match in_order(state.alloc, rest) {
-        Ok(steps) => chain_steps(state, reading, steps, fuel),
-        Err(error) => Err(error),
-    }
-}
-
-#[cycle(types)]
-fn chain_steps(
-    state: &mut Bracketing,
-    reading: Reading<TypeTree>,
-    steps: Vec<TypeStep>,
-    fuel: u32,
-) -> Result<Reading<TypeTree>, NoMemory> {
-    let mut reading = reading;
-    for step in steps {
-        add_step(state, step, fuel, &mut reading)?;
-    }
-    Ok(reading)
-}
-
-#[cycle(types)]
-fn add_step(
-    state: &mut Bracketing,
-    step: TypeStep,
-    fuel: u32,
-    reading: &mut Reading<TypeTree>,
-) -> Result<(), NoMemory> {
-    let TypeStep { op, operand } = step;
-    let mut inside = Size::NONE;
-    match x_type(state, operand, fuel, &mut inside) {
-        Ok(operand) => reading.add(op, operand, inside),
-        Err(error) => Err(error),
-    }
+    Ok(list)
 }
 
 /// Prefixes and the type behind them. Each arrow is a level of what it takes and of all behind it.
 #[cycle(types)]
 fn prefixed(
     state: &mut Bracketing,
-    prefixes: Items<TypePrefix>,
-    body: Boxed<TypeTree>,
-    span: Span,
+    tree: &TypeTree,
     fuel: u32,
     size: &mut Size,
 ) -> Result<TypeTree, NoMemory> {
-    let mut arrows: u32 = 0;
-    match prefix_list(state, prefixes, fuel, &mut arrows, size) {
-        Ok(prefixes) => body_behind(state, prefixes, body, span, arrows, fuel, size),
-        Err(error) => Err(error),
-    }
-}
-
-/// A type whose prefixes are done.
-#[cycle(types)]
-fn body_behind(
-    state: &mut Bracketing,
-    prefixes: Items<TypePrefix>,
-    body: Boxed<TypeTree>,
-    span: Span,
-    arrows: u32,
-    fuel: u32,
-    size: &mut Size,
-) -> Result<TypeTree, NoMemory> {
-    let mut inside = Size::NONE;
-    match boxed(state, body, fuel, &mut inside) {
-        Ok(result) => {
+    match tree {
+        TypeTree::Prefixed {
+            prefixes,
+            result,
+            span,
+        } => {
+            let mut arrows: u32 = 0;
+            let prefixes = prefix_list(state, prefixes.as_slice(), fuel, &mut arrows, size)?;
+            let mut inside = Size::NONE;
+            let result = boxed(state, result, fuel, &mut inside)?;
             *size = size.then(inside.under(arrows));
             Ok(TypeTree::Prefixed {
                 prefixes,
                 result,
-                span,
+                span: *span,
             })
         }
-        Err(error) => Err(error),
+        _ => Ok(arrow(tree.span())),
     }
 }
 
 #[cycle(types)]
 fn prefix_list(
     state: &mut Bracketing,
-    prefixes: Items<TypePrefix>,
+    prefixes: &[TypePrefix],
     fuel: u32,
     arrows: &mut u32,
     size: &mut Size,
 ) -> Result<Items<TypePrefix>, NoMemory> {
-    let prefixes = in_order(state.alloc, prefixes)?;
-    let mut done = Items::new(state.alloc);
+    let mut list = Items::new(state.alloc);
     for next in prefixes {
-        if is_arrow(&next) {
+        if is_arrow(next) {
             *arrows = arrows.saturating_add(1);
         }
-        add_prefix(state, next, *arrows, fuel, &mut done, size)?;
+        let mut inside = Size::NONE;
+        list.push(prefix(state, next, fuel, &mut inside)?)?;
+        *size = size.then(inside.under(*arrows));
     }
-    Ok(done)
+    Ok(list)
 }
 
 fn is_arrow(prefix: &TypePrefix) -> bool {
@@ -359,25 +249,9 @@ fn is_arrow(prefix: &TypePrefix) -> bool {
 }
 
 #[cycle(types)]
-fn add_prefix(
-    state: &mut Bracketing,
-    next: TypePrefix,
-    arrows: u32,
-    fuel: u32,
-    done: &mut Items<TypePrefix>,
-    size: &mut Size,
-) -> Result<(), NoMemory> {
-    let mut inside = Size::NONE;
-    let next = prefix(state, next, fuel, &mut inside)?;
-    *size = size.then(inside.under(arrows));
-    done.push(next)?;
-    Ok(())
-}
-
-#[cycle(types)]
 fn prefix(
     state: &mut Bracketing,
-    next: TypePrefix,
+    next: &TypePrefix,
     fuel: u32,
     size: &mut Size,
 ) -> Result<TypePrefix, NoMemory> {
@@ -385,24 +259,26 @@ fn prefix(
         TypePrefix::Forall { vars, span } => {
             *size = size.then(Size::KEYWORD);
             vars_size(vars.as_slice(), size);
-            Ok(TypePrefix::Forall { vars, span })
+            let vars = type_vars(state.alloc, vars.as_slice())?;
+            Ok(TypePrefix::Forall { vars, span: *span })
         }
         TypePrefix::Given { constraints, span } => {
-            match constraint_list(state, constraints, fuel, size) {
-                Ok(constraints) => Ok(TypePrefix::Given { constraints, span }),
-                Err(error) => Err(error),
-            }
+            let constraints = constraint_list(state, constraints.as_slice(), fuel, size)?;
+            Ok(TypePrefix::Given {
+                constraints,
+                span: *span,
+            })
         }
         TypePrefix::Argument {
             x_type: argument,
             span,
-        } => match x_type(state, argument, fuel, size) {
-            Ok(argument) => Ok(TypePrefix::Argument {
+        } => {
+            let argument = x_type(state, argument, fuel, size)?;
+            Ok(TypePrefix::Argument {
                 x_type: argument,
-                span,
-            }),
-            Err(error) => Err(error),
-        },
+                span: *span,
+            })
+        }
     }
 }
 
@@ -410,55 +286,56 @@ fn prefix(
 #[cycle(types)]
 pub(crate) fn constraint_list(
     state: &mut Bracketing,
-    constraints: Items<Constr>,
+    constraints: &[Constr],
     fuel: u32,
     size: &mut Size,
 ) -> Result<Items<Constr>, NoMemory> {
-    let several = constraints.len() > 1;
-    let constraints = in_order(state.alloc, constraints)?;
-    let mut done = Items::new(state.alloc);
+    let mut list = Items::new(state.alloc);
     let mut all = Size::NONE;
-    for constraint in constraints {
-        add_constraint(state, constraint, fuel, &mut done, &mut all)?;
+    for next in constraints {
+        let mut inside = Size::NONE;
+        list.push(constraint(state, next, fuel, &mut inside)?)?;
+        all = all.beside(inside);
     }
-    *size = size.then(if several { all.enclosed() } else { all });
-    Ok(done)
+    *size = size.then(if list.len() > 1 { all.enclosed() } else { all });
+    Ok(list)
 }
 
 #[cycle(types)]
-fn add_constraint(
+fn constraint(
     state: &mut Bracketing,
-    constraint: Constr,
-    fuel: u32,
-    done: &mut Items<Constr>,
-    all: &mut Size,
-) -> Result<(), NoMemory> {
-    let mut inside = Size::NONE;
-    let constraint = constraint_of(state, constraint, fuel, &mut inside)?;
-    *all = all.beside(inside);
-    done.push(constraint)?;
-    Ok(())
-}
-
-#[cycle(types)]
-fn constraint_of(
-    state: &mut Bracketing,
-    constraint: Constr,
+    next: &Constr,
     fuel: u32,
     size: &mut Size,
 ) -> Result<Constr, NoMemory> {
-    let Constr {
-        class,
-        arguments,
-        span,
-    } = constraint;
-    match type_arguments(state, arguments, fuel, size) {
+    let class = mention(&next.class)?;
+    match type_arguments(state, next.arguments.as_slice(), fuel, size) {
         Ok(arguments) => Ok(Constr {
             class,
             arguments,
-            span,
+            span: next.span,
         }),
         Err(error) => Err(error),
+    }
+}
+
+#[cycle(types)]
+fn brackets(
+    state: &mut Bracketing,
+    tree: &TypeTree,
+    fuel: u32,
+    size: &mut Size,
+) -> Result<TypeTree, NoMemory> {
+    match tree {
+        TypeTree::Row { row: fields, span } => Ok(TypeTree::Row {
+            row: row(state, fields, fuel, size)?,
+            span: *span,
+        }),
+        TypeTree::XRecord { row: fields, span } => Ok(TypeTree::XRecord {
+            row: row(state, fields, fuel, size)?,
+            span: *span,
+        }),
+        _ => Ok(arrow(tree.span())),
     }
 }
 
@@ -472,17 +349,20 @@ struct RowSize {
 #[cycle(types)]
 fn row(
     state: &mut Bracketing,
-    row: RowTree,
+    row: &RowTree,
     fuel: u32,
     size: &mut Size,
 ) -> Result<RowTree, NoMemory> {
-    let RowTree { fields, tail } = row;
     let mut inside = RowSize {
         all: Size::NONE,
         last: Size::NONE,
     };
-    match row_fields(state, fields, fuel, &mut inside) {
-        Ok(fields) => row_behind(state, fields, tail, inside, fuel, size),
+    let fields = row_fields(state, row.fields.as_slice(), fuel, &mut inside)?;
+    match row_tail(state, &row.tail, fuel, &mut inside.last) {
+        Ok(tail) => {
+            *size = size.then(inside.all.beside(inside.last).enclosed());
+            Ok(RowTree { fields, tail })
+        }
         Err(error) => Err(error),
     }
 }
@@ -490,45 +370,28 @@ fn row(
 #[cycle(types)]
 fn row_fields(
     state: &mut Bracketing,
-    fields: Items<RowField>,
+    fields: &[RowField],
     fuel: u32,
     inside: &mut RowSize,
 ) -> Result<Items<RowField>, NoMemory> {
-    let fields = in_order(state.alloc, fields)?;
-    let mut done = Items::new(state.alloc);
+    let mut list = Items::new(state.alloc);
     for field in fields {
         inside.all = inside.all.beside(inside.last);
         inside.last = Size::NONE;
-        add_field(state, field, fuel, &mut done, &mut inside.last)?;
+        list.push(row_field(state, field, fuel, &mut inside.last)?)?;
     }
-    Ok(done)
+    Ok(list)
 }
 
 #[cycle(types)]
-fn add_field(
+fn row_field(
     state: &mut Bracketing,
-    field: RowField,
-    fuel: u32,
-    done: &mut Items<RowField>,
-    size: &mut Size,
-) -> Result<(), NoMemory> {
-    let field = field_of(state, field, fuel, size)?;
-    done.push(field)?;
-    Ok(())
-}
-
-#[cycle(types)]
-fn field_of(
-    state: &mut Bracketing,
-    field: RowField,
+    field: &RowField,
     fuel: u32,
     size: &mut Size,
 ) -> Result<RowField, NoMemory> {
-    let RowField {
-        label,
-        x_type: written,
-    } = field;
-    match x_type(state, written, fuel, size) {
+    let label = label(&field.label)?;
+    match x_type(state, &field.x_type, fuel, size) {
         Ok(written) => Ok(RowField {
             label,
             x_type: written,
@@ -537,30 +400,10 @@ fn field_of(
     }
 }
 
-/// A row whose fields are done.
-#[cycle(types)]
-fn row_behind(
-    state: &mut Bracketing,
-    fields: Items<RowField>,
-    tail: Option<Boxed<TypeTree>>,
-    inside: RowSize,
-    fuel: u32,
-    size: &mut Size,
-) -> Result<RowTree, NoMemory> {
-    let RowSize { all, mut last } = inside;
-    match row_tail(state, tail, fuel, &mut last) {
-        Ok(tail) => {
-            *size = size.then(all.beside(last).enclosed());
-            Ok(RowTree { fields, tail })
-        }
-        Err(error) => Err(error),
-    }
-}
-
 #[cycle(types)]
 fn row_tail(
     state: &mut Bracketing,
-    tail: Option<Boxed<TypeTree>>,
+    tail: &Option<Boxed<TypeTree>>,
     fuel: u32,
     size: &mut Size,
 ) -> Result<Option<Boxed<TypeTree>>, NoMemory> {
@@ -571,17 +414,13 @@ fn row_tail(
 }
 
 /// A signature with its chains as trees.
-pub(crate) fn sig(state: &mut Bracketing, sig: Sig, size: &mut Size) -> Result<Sig, NoMemory> {
-    let Sig {
-        name,
-        x_type: written,
-        span,
-    } = sig;
-    match x_type(state, written, FUEL, size) {
+pub(crate) fn sig(state: &mut Bracketing, sig: &Sig, size: &mut Size) -> Result<Sig, NoMemory> {
+    let name = ident(&sig.name)?;
+    match x_type(state, &sig.x_type, FUEL, size) {
         Ok(written) => Ok(Sig {
             name,
             x_type: written,
-            span,
+            span: sig.span,
         }),
         Err(error) => Err(error),
     }
@@ -590,7 +429,7 @@ pub(crate) fn sig(state: &mut Bracketing, sig: Sig, size: &mut Size) -> Result<S
 /// Types that stand behind one another as arguments.
 pub(crate) fn type_list(
     state: &mut Bracketing,
-    types: Items<TypeTree>,
+    types: &[TypeTree],
     size: &mut Size,
 ) -> Result<Items<TypeTree>, NoMemory> {
     type_arguments(state, types, FUEL, size)
