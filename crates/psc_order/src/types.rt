@@ -358,7 +358,7 @@ fn row(
         last: Size::NONE,
     };
     let fields = row_fields(state, row.fields.as_slice(), fuel, &mut inside)?;
-    match row_tail(state, &row.tail, fuel, &mut inside.last) {
+    match row_tail(state, row, fuel, &mut inside.last) {
         Ok(tail) => {
             *size = size.then(inside.all.beside(inside.last).enclosed());
             Ok(RowTree { fields, tail })
@@ -400,14 +400,15 @@ fn row_field(
     }
 }
 
+/// The type behind the bar of a row, if one is written.
 #[cycle(types)]
 fn row_tail(
     state: &mut Bracketing,
-    tail: &Option<Boxed<TypeTree>>,
+    row: &RowTree,
     fuel: u32,
     size: &mut Size,
 ) -> Result<Option<Boxed<TypeTree>>, NoMemory> {
-    match tail {
+    match &row.tail {
         Some(tail) => Ok(Some(boxed(state, tail, fuel, size)?)),
         None => Ok(None),
     }
