@@ -1,8 +1,8 @@
 #!/usr/bin/env python3
 """Times phases of modules that it makes. usage: bench/phases.py PROGRAM [LINES]
 
-PROGRAM is name_speed, which resolves names. Run `rt run` in crates/PROGRAM first: it proves and
-builds the program. Printed are, for each shape, the seconds that the phase takes at the number of declaration lines given
+PROGRAM is name_speed, which resolves names, or plain_speed, which makes plain forms. Run `rt run` in crates/PROGRAM first:
+it proves and builds the program. Printed are, for each shape, the seconds that the phase takes at the number of declaration lines given
 (100,000) and at a tenth of it, how many times as long ten times the lines take, and the most memory of the
 process, which holds the source, the tree as written and what is made of it. Times are the program's own, best of five.
 """
@@ -50,8 +50,33 @@ def statements(lines):
     yield "  f"
 
 
+def clauses(lines):
+    """Clauses with a guard and an if."""
+    for n in range(lines):
+        yield f"f {n} | true = if true then {n} else {n + 1}"
+
+
+def bindings(lines):
+    """Values with a where of a binder and a binding, four lines a part."""
+    for n in range(lines // 4):
+        yield f"b{n} q = x"
+        yield "  where"
+        yield "  { l: x } = q"
+        yield "  z = q"
+
+
+def blocks(lines):
+    """Values whose blocks have nine statements, ten lines a part."""
+    for n in range(lines // 10):
+        yield f"d{n} f = do"
+        for k in range(8):
+            yield f"  y{k} <- f"
+        yield "  f"
+
+
 SHAPES = {
     "name_speed": [values, functions, types, statements],
+    "plain_speed": [values, functions, types, clauses, bindings, blocks],
 }
 
 
